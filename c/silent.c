@@ -69,19 +69,23 @@ static size_t put_head(char *to, int head) {
     return (size_t)snprintf(to, LINE_ROOM, "%s 1 0\n%s 255 0\n", name, name);
 }
 
-int kl_take_heads(const text *stream, text *lines) {
-    int heads[MOST_HEADS_ASKED + 1];
-    kl_drop_text(lines);
-    if (!stream->length) return PAPI_OK;
-    unsigned char *seen = calloc(1, ALL_HEADS);
-    if (!seen) return PAPI_ENOMEM;
-    unsigned count = find_heads(stream, seen, heads);
-    free(seen);
-    if (count == 0 || count > MOST_HEADS_ASKED) return PAPI_OK;
+static int put_heads(const int *heads, unsigned count, text *lines) {
     lines->bytes = malloc((size_t)count * LINE_ROOM);
     if (!lines->bytes) return PAPI_ENOMEM;
     for (unsigned i = 0; i < count; i++) lines->length += put_head((char *)lines->bytes + lines->length, heads[i]);
     return PAPI_OK;
+}
+
+int kl_take_heads(const text *stream, text *lines) {
+    struct { int heads[MOST_HEADS_ASKED + 1]; unsigned char seen[ALL_HEADS]; } *found; /* not on the stack: a thread may have a small one */
+    kl_drop_text(lines);
+    if (!stream->length) return PAPI_OK;
+    found = calloc(1, sizeof *found);
+    if (!found) return PAPI_ENOMEM;
+    unsigned count = find_heads(stream, found->seen, found->heads);
+    int code = count == 0 || count > MOST_HEADS_ASKED ? PAPI_OK : put_heads(found->heads, count, lines);
+    free(found);
+    return code;
 }
 
 /* -- an event over them -- */
