@@ -40,14 +40,6 @@ static void end_of_process(void) {
     pthread_mutex_unlock(&kl_region_lock);
 }
 
-void kl_regions_end(uint32_t number) {
-    if (!own || own->number != number) return;
-    pthread_mutex_lock(&kl_region_lock);
-    own->has_ended = 1;
-    own = NULL;
-    pthread_mutex_unlock(&kl_region_lock);
-}
-
 /* The first call in the process chooses the events. Under the lock. */
 static int begin_regions(void) {
     if (regions.has_failed) return PAPI_EMISC;
@@ -71,16 +63,45 @@ static int begin_thread(uint32_t number) {
     return PAPI_OK;
 }
 
-/* The sets of the calling thread, one for each group. */
+/* A library that ended has taken the sets with it, and what the open regions counted: they do not end any more. */
+static void take_library(unsigned generation) {
+    if (own->generation == generation) return;
+    own->generation = generation;
+    own->set_count = own->runs = own->depth = 0;
+}
+
+static int has_sets(void) { return own && own->set_count && own->generation == atomic_load(&kl_generation); }
+
+/* Ends the sets of the calling thread, so that it can count otherwise. */
+static void drop_sets(void) {
+    long long values[MOST_VALUES];
+    for (int i = 0; has_sets() && i < own->set_count; i++) {
+        PAPI_stop(own->sets[i], values);
+        PAPI_cleanup_eventset(own->sets[i]);
+        PAPI_destroy_eventset(&own->sets[i]);
+    }
+    if (own) own->set_count = own->runs = 0;
+}
+
+void kl_regions_end(uint32_t number) {
+    CALL(PAPI_hl_stop);
+    if (!own || own->number != number) return;
+    drop_sets();
+    pthread_mutex_lock(&kl_region_lock);
+    own->has_ended = 1;
+    own = NULL;
+    pthread_mutex_unlock(&kl_region_lock);
+}
+
+/* The sets of the calling thread, one for each group. An event has another code in another library. */
 static int make_sets(void) {
-    if (own->has_sets) return PAPI_OK;
-    for (int i = 0; i < counted.group_count; i++) {
+    for (int i = own->set_count; i < counted.group_count; i++) {
         int code = kl_make_region_set(counted.groups[i].component, &own->sets[i]);
+        if (own->sets[i] != PAPI_NULL) own->set_count++;
         for (int e = 0; code == PAPI_OK && e < counted.event_count; e++)
-            if (counted.events[e].group == i) code = PAPI_add_event(own->sets[i], counted.events[e].code);
+            if (counted.events[e].group == i) code = PAPI_add_named_event(own->sets[i], counted.events[e].name);
         if (code != PAPI_OK) return code;
     }
-    own->has_sets = 1;
     return PAPI_OK;
 }
 
@@ -96,6 +117,7 @@ static int start_sets(void) {
 /* The values now. Those of sets that were stopped are those of the stop. */
 static int read_values(long long *values) {
     long long *at = values + FIXED_VALUES;
+    if (!has_sets()) return kl_is_open() ? PAPI_ENOEVST : PAPI_ENOINIT;
     for (int i = 0; i < counted.group_count; i++) {
         int code = PAPI_read(own->sets[i], at);
         if (code != PAPI_OK) return code;
@@ -148,12 +170,13 @@ static region *open_region_of(const char *name) {
     return r && !strcmp(kl_region_name(&counted, r), name) ? r : NULL;
 }
 
-/* After a failure nothing more is counted or written. */
+/* After a failure nothing more is counted or written. Each thread ends its sets at its next call. */
 static int fail(int code) {
     kl_region_say("Error: ", PAPI_strerror(code) ? PAPI_strerror(code) : "");
     pthread_mutex_lock(&kl_region_lock);
     regions.has_failed = 1;
     pthread_mutex_unlock(&kl_region_lock);
+    drop_sets();
     return code;
 }
 
@@ -161,6 +184,7 @@ static int has_failed(void) {
     pthread_mutex_lock(&kl_region_lock);
     int failed = regions.has_failed;
     pthread_mutex_unlock(&kl_region_lock);
+    if (failed) drop_sets();
     return failed;
 }
 
@@ -175,6 +199,7 @@ static int prepare(void) {
     code = begin_regions();
     if (code == PAPI_OK) code = begin_thread(t->number);
     pthread_mutex_unlock(&kl_region_lock);
+    if (code == PAPI_OK) take_library(t->generation);
     if (code == PAPI_OK) code = make_sets();
     if (code == PAPI_OK) code = start_sets();
     return code;
@@ -241,7 +266,7 @@ int PAPI_hl_region_end(const char *name) {
     RETURN(read_region(name, 1));
 }
 
-int kl_high_level_runs(void) { return own && own->runs; }
+int kl_high_level_runs(void) { return has_sets() && own->runs; }
 
 int PAPI_hl_stop(void) {
     CALL(PAPI_hl_stop);

@@ -14,7 +14,7 @@
 #define MOST_VALUES (FIXED_VALUES + MOST_REGION_EVENTS)
 
 /* An event, the group to which it belongs, and whether its value at the end counts rather than the difference. */
-typedef struct { char name[PAPI_MAX_STR_LEN]; int code, group, is_instant; } region_event;
+typedef struct { char name[PAPI_MAX_STR_LEN]; int group, is_instant; } region_event;
 
 /* The events of a component, which stand one after the other, and while they are chosen a set that has them. */
 typedef struct { int component, count, trial; char name[PAPI_MAX_STR_LEN]; } event_group;
@@ -48,7 +48,8 @@ typedef struct region_thread {
     int begun, ended;
     int depth;
     region *open[MOST_NESTED];
-    int has_sets, runs;
+    unsigned generation; /* of the library that has the sets */
+    int set_count, runs;
     int sets[MOST_GROUPS];
 } region_thread;
 

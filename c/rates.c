@@ -7,8 +7,11 @@
 
 enum { NOTHING, FLIPS, FLOPS, IPC, EPC };
 
-/* What the thread counts now: the kind of rate, its event, and the times in microseconds at which the set was started. */
-static _Thread_local struct { int kind, event, set; long long real, virt; } rate = { NOTHING, 0, PAPI_NULL, 0, 0 };
+/* What the thread counts: the kind of rate, its event, the times in microseconds at which the set was started, and the library that has the set. */
+static _Thread_local struct { int kind, event, set; long long real, virt; unsigned generation; } rate = { NOTHING, 0, PAPI_NULL, 0, 0, 0 };
+
+/* In a library that began since, the number may be that of another set. */
+static int counted_kind(void) { return rate.generation == atomic_load(&kl_generation) ? rate.kind : NOTHING; }
 
 static void note_times(long long real, long long virt) {
     rate.real = real;
@@ -27,7 +30,7 @@ static int stop(long long *values) {
 int PAPI_rate_stop(void) {
     CALL(PAPI_rate_stop);
     long long values[MOST_RATED];
-    RETURN(rate.kind == NOTHING ? PAPI_ENOEVNT : stop(values));
+    RETURN(counted_kind() == NOTHING ? PAPI_ENOEVNT : stop(values));
 }
 
 /* Opens the library with support of threads, where the program has not. */
@@ -38,6 +41,9 @@ int kl_begin_library(void) {
 
 /* A new set with the events, which is started. */
 static int start(int kind, int *events, int number) {
+    rate.kind = NOTHING;
+    rate.set = PAPI_NULL;
+    rate.generation = atomic_load(&kl_generation);
     int code = PAPI_create_eventset(&rate.set);
     for (int i = 0; code == PAPI_OK && i < number; i++) code = PAPI_add_event(rate.set, events[i]);
     if (code == PAPI_OK) code = PAPI_start(rate.set);
@@ -59,9 +65,9 @@ static int rated(int kind, int *events, int number, float *rtime, float *ptime, 
     int code = kl_high_level_runs() ? PAPI_hl_stop() : kl_begin_library();
     for (int i = 0; code == PAPI_OK && i < number; i++) code = PAPI_query_event(events[i]);
     if (code != PAPI_OK) return code;
-    if (rate.kind != kind || rate.event != events[0]) {
+    if (counted_kind() != kind || rate.event != events[0]) {
         long long dropped[MOST_RATED];
-        if (rate.kind != NOTHING) code = stop(dropped);
+        if (counted_kind() != NOTHING) code = stop(dropped);
         return code == PAPI_OK ? start(kind, events, number) : code;
     }
     code = PAPI_stop(rate.set, values);
@@ -129,4 +135,4 @@ int PAPI_epc(int event, float *rtime, float *ptime, long long *ref, long long *c
     RETURN(code);
 }
 
-int kl_rate_runs(void) { return rate.kind != NOTHING; }
+int kl_rate_runs(void) { return counted_kind() != NOTHING; }

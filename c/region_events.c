@@ -49,14 +49,14 @@ static void insert(counted_events *counted, const region_event *event) {
 /* Takes an event where it is available and can be counted with the others of its group. */
 static void take_event(counted_events *counted, const char *name, int is_instant) {
     region_event event = { .is_instant = is_instant };
-    int fits = strlen(name) < sizeof event.name && counted->event_count < MOST_REGION_EVENTS, code = PAPI_EINVAL;
+    int fits = strlen(name) < sizeof event.name && counted->event_count < MOST_REGION_EVENTS, number, code = PAPI_EINVAL;
     if (fits) {
         strcpy(event.name, name);
-        code = PAPI_event_name_to_code(name, &event.code);
+        code = PAPI_event_name_to_code(name, &number);
     }
-    if (code == PAPI_OK) code = PAPI_query_event(event.code);
-    if (code == PAPI_OK) code = event.group = group_of(counted, PAPI_get_event_component(event.code));
-    if (code >= 0) code = PAPI_add_event(counted->groups[event.group].trial, event.code);
+    if (code == PAPI_OK) code = PAPI_query_event(number);
+    if (code == PAPI_OK) code = event.group = group_of(counted, PAPI_get_event_component(number));
+    if (code >= 0) code = PAPI_add_event(counted->groups[event.group].trial, number);
     if (code == PAPI_OK) insert(counted, &event);
     else kl_region_say("Warning: cannot count ", name);
 }

@@ -1,4 +1,5 @@
-/* Threads: their ids, the list of them, what they keep for the program, and the program's locks. */
+/* Threads: their ids, the list of them, and what they keep for the program. */
+#define _GNU_SOURCE
 #include "internal.h"
 
 #include <unistd.h>
@@ -68,9 +69,9 @@ int PAPI_thread_init(unsigned long (*id_fn)(void)) {
     RETURN(support(t, id_fn));
 }
 
-static unsigned long own_id(void) { return (unsigned long)pthread_self(); }
+static unsigned long own_id(void) { return (unsigned long)gettid(); }
 
-/* What rates and regions need. Where there are threads already, their ids stay as they are. */
+/* What rates and regions need: ids are those of the system, as in PAPI. Where there are threads already, their ids stay as they are. */
 int kl_thread_support(void) {
     int code;
     thread_state *t = kl_here(&code);
