@@ -30,11 +30,14 @@ static inline int kl_answer(int code) { return code >= PAPI_OK ? code : kl_refus
     if (!t) RETURN(code_)
 
 /* calls.c: how deep the calling thread is in calls of the library, and the outermost one. Around a function or a handler of the user it leaves that, and enters
- * it again. A thread that the tool has stopped is in the library too. */
-typedef struct { int depth, number; } kl_outside;
+ * it again. A thread that the tool has stopped is in the library too. Of the calls that go on, `changing` are those of functions that neither count nor tell the
+ * time: one that counts and begins in such a function is that of a signal's handler. */
+typedef struct { int depth, number, changing, interrupting; } kl_outside;
 kl_outside kl_user_begins(void);
 void kl_user_ends(kl_outside before);
 int kl_is_nested(void);
+int kl_interrupts(void);
+int kl_is_changing(void);
 void kl_stopped_begins(void);
 void kl_stopped_ends(void);
 

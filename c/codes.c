@@ -90,16 +90,18 @@ void kl_drop_codes(thread_state *t) {
 
 static uint32_t noted(const uint32_t *numbers, uint32_t count, uint32_t at) { return at < count ? numbers[at] : 0; }
 
-/* Notes a number, with 1 added. */
+/* Notes a number, with 1 added. A signal's handler finds the numbers at each moment. */
 int kl_note(uint32_t **numbers, uint32_t *count, uint32_t at, uint32_t number) {
     if (at >= *count) {
         uint32_t room = *count ? *count : FIRST_ROOM;
         while (room <= at) room *= 2;
-        uint32_t *more = realloc(*numbers, room * sizeof *more);
+        uint32_t *more = calloc(room, sizeof *more), *old = *numbers;
         if (!more) return PAPI_ENOMEM;
-        memset(more + *count, 0, (room - *count) * sizeof *more);
+        if (*count) memcpy(more, old, *count * sizeof *more);
         *numbers = more;
+        atomic_signal_fence(memory_order_seq_cst);
         *count = room;
+        free(old);
     }
     (*numbers)[at] = number + 1;
     return PAPI_OK;

@@ -39,6 +39,7 @@ int kistalub_go(uint32_t n, uint32_t *went) {
     int code;
     if (!went) went = &here_went;
     *went = 0;
+    if (kl_is_changing()) return PAPI_OK; /* in a handler of a signal */
     thread_state *t = kl_here(&code);
     return t ? kl_go(t, n, went) : code;
 }
@@ -78,9 +79,10 @@ static __attribute__((noinline)) int call_later(thread_state *t, kl_set *s, uint
     return PAPI_OK;
 }
 
-/* Keeps what was told last. */
-static void note(kl_set *s, asked what, const int64_t *values, uint32_t count) {
+/* Keeps what was told last. What a handler asked for that interrupted the call came after it. */
+static void note(const thread_state *t, kl_set *s, uint32_t set, asked what, const int64_t *values, uint32_t count) {
     if (what == TO_START || what == TO_STOP) s->runs = what == TO_START;
+    if ((t->signals.to_stop | t->signals.to_reset) >> set & 1) return;
     if (what == TO_READ || what == TO_STOP) memcpy(s->last, values, count * sizeof *values);
     else memset(s->last, 0, sizeof s->last);
 }
@@ -91,7 +93,7 @@ static inline __attribute__((always_inline)) int ask(thread_state *owner, uint32
     kl_set *s = owner->sets[set];
     if (!kl_core_begins(owner)) return call_later(owner, s, set, what, values, count);
     int code = call_core(&owner->library, set, what, values, count);
-    if (code == PAPI_OK) note(s, what, values, *count);
+    if (code == PAPI_OK) note(owner, s, set, what, values, *count);
     kl_core_ends(owner);
     return code;
 }
@@ -122,7 +124,7 @@ static inline __attribute__((always_inline)) int ask_here(int set, asked what, i
 static int judge(int set) {
     thread_state *t = kl_known();
     kl_set *s = t ? kl_set_of(t, set) : NULL;
-    if (!s || s->is_judged) return PAPI_OK;
+    if (!s || s->is_judged || kl_interrupts()) return PAPI_OK;
     int code = kl_judge_events(t, kl_set_number(t, set));
     s->is_judged = code == PAPI_OK;
     return code;

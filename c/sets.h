@@ -21,6 +21,9 @@ int kl_goes_on(thread_state *t);
  * nothing of the library may be touched until that one ends. */
 int kl_core_begins(thread_state *t);
 void kl_core_ends(thread_state *t);
+/* So does what other functions change. */
+void kl_change_begins(void);
+void kl_change_ends(void);
 
 /* set_numbers.c. A set is given by the number that the program knows. `kl_set_number` is that of the thread's library, which no set has if the thread has
  * no such set; `kl_set_of` is NULL then. */

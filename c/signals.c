@@ -14,6 +14,9 @@
 
 /* Some handler was seen, or a call that interrupted another one. */
 static atomic_int is_met, has_handlers;
+static _Thread_local struct { int are_waiting, cancelled; sigset_t before; } change;
+
+static int are_met(void) { return atomic_load_explicit(&has_handlers, memory_order_relaxed) || atomic_load_explicit(&is_met, memory_order_relaxed); }
 
 /* Signals that an instruction of the thread itself raises do not wait. */
 static int is_own(int number) { return number == SIGSEGV || number == SIGBUS || number == SIGFPE || number == SIGILL || number == SIGTRAP; }
@@ -52,30 +55,35 @@ static void come(kl_signals *s) {
     pthread_sigmask(SIG_SETMASK, &before, NULL);
 }
 
-/* What handlers asked for meanwhile. */
+/* What handlers asked for meanwhile. The call that does it is at work itself. */
 static void do_asked(thread_state *t) {
     int64_t values[MOST_EVENTS];
     uint32_t count;
-    wait_for_end(&t->signals);
-    for (uint32_t set = 0; set < MOST_SETS; set++) {
-        if (t->signals.to_stop >> set & 1) kistalub_stop(&t->library, set, values, MOST_EVENTS, &count);
-        if (t->signals.to_reset >> set & 1 && kistalub_reset(&t->library, set) == PAPI_OK) memset(t->sets[set]->last, 0, sizeof t->sets[set]->last);
-    }
+    const uint64_t to_stop = t->signals.to_stop, to_reset = t->signals.to_reset;
     t->signals.to_stop = t->signals.to_reset = 0;
-    come(&t->signals);
+    for (uint32_t set = 0; set < MOST_SETS; set++) {
+        if (to_stop >> set & 1) kistalub_stop(&t->library, set, values, MOST_EVENTS, &count);
+        if (to_reset >> set & 1 && kistalub_reset(&t->library, set) == PAPI_OK) memset(t->sets[set]->last, 0, sizeof t->sets[set]->last);
+    }
 }
 
 int kl_core_begins(thread_state *t) {
     kl_signals *s = &t->signals;
-    if (s->depth) {
+    if (s->depth || kl_interrupts()) {
         atomic_store_explicit(&is_met, 1, memory_order_relaxed);
         return 0;
     }
     if (s->until_look-- == 0) look(s);
-    if (atomic_load_explicit(&has_handlers, memory_order_relaxed) || atomic_load_explicit(&is_met, memory_order_relaxed)) wait_for_end(s);
+    if (are_met()) wait_for_end(s);
     s->depth = 1;
     atomic_signal_fence(memory_order_seq_cst);
+    if (s->to_stop | s->to_reset) do_asked(t);
     return 1;
+}
+
+/* The call that comes first does it: this one, or one of a handler. */
+static void do_now(thread_state *t) {
+    if (kl_core_begins(t)) kl_core_ends(t);
 }
 
 void kl_core_ends(thread_state *t) {
@@ -83,5 +91,26 @@ void kl_core_ends(thread_state *t) {
     atomic_signal_fence(memory_order_seq_cst);
     s->depth = 0;
     if (s->are_waiting) come(s);
-    if (s->to_stop | s->to_reset) do_asked(t);
+    if (s->to_stop | s->to_reset) do_now(t);
+}
+
+/* What a thread that is cancelled left undone would look like an interrupted function in its destructors, so it is not. */
+void kl_change_begins(void) {
+    sigset_t others;
+    change.cancelled = kl_no_cancellation();
+    if (!are_met()) return;
+    note_others(&others);
+    pthread_sigmask(SIG_SETMASK, &others, &change.before);
+    change.are_waiting = 1;
+}
+
+/* What was asked for by handlers that interrupted the function all the same is done. */
+void kl_change_ends(void) {
+    thread_state *t = atomic_load_explicit(&is_met, memory_order_relaxed) ? kl_known() : NULL;
+    if (t && (t->signals.to_stop | t->signals.to_reset)) do_now(t);
+    if (change.are_waiting) {
+        change.are_waiting = 0;
+        pthread_sigmask(SIG_SETMASK, &change.before, NULL);
+    }
+    kl_cancel_again(&change.cancelled);
 }

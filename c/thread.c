@@ -220,7 +220,8 @@ static int name_state(thread_state *t) {
 /* A thread is listed before its stream is read. The function that gives its id may make calls, which then open the library. */
 static __attribute__((noinline)) thread_state *begin_thread(int *code) {
     NO_CANCELLATION;
-    if (!kl_known()) *code = kl_enters(NULL, 0);
+    if (kl_interrupts()) *code = PAPI_ENOINIT;
+    else if (!kl_known()) *code = kl_enters(NULL, 0);
     if (*code == PAPI_OK && !own.state->has_id) *code = name_state(own.state);
     if (*code == PAPI_OK && !own.state->is_opened) *code = open_state(own.state);
     return *code == PAPI_OK ? own.state : NULL;

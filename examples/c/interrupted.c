@@ -11,6 +11,7 @@
 #define CALLS 20000
 #define LATE 1200
 #define ENOUGH 3
+#define MANY 200
 #define ROUNDS 3
 #define MICROSECONDS 100
 #define INSTRUCTIONS 255
@@ -60,6 +61,22 @@ static void tick(int microseconds) {
     WANT(setitimer(ITIMER_REAL, &timer, NULL), 0);
 }
 
+/* Other functions are called meanwhile. A handler finds the set that counts as it is. */
+static void make_and_ask(void) {
+    int other = PAPI_NULL, event, events[2], number = 2, state;
+    PAPI_event_info_t info;
+    WANT(PAPI_create_eventset(&other), PAPI_OK);
+    WANT(PAPI_event_name_to_code("CYCLES", &event), PAPI_OK);
+    WANT(PAPI_add_event(other, event), PAPI_OK);
+    WANT(PAPI_get_event_info(event, &info), PAPI_OK);
+    WANT(PAPI_list_events(other, events, &number), PAPI_OK);
+    WANT(number, 1);
+    WANT(events[0], event);
+    WANT(PAPI_state(other, &state), PAPI_OK);
+    WANT(PAPI_cleanup_eventset(other), PAPI_OK);
+    WANT(PAPI_destroy_eventset(&other), PAPI_OK);
+}
+
 /* What a handler does that is set after many calls, and interrupts one of them. */
 typedef enum { READS, ACCUMULATES, STOPS, RESETS } deed;
 static deed does;
@@ -102,7 +119,7 @@ static void tell_refused(void) {
 }
 
 /* Nothing is lost, and nothing is counted twice. */
-static void is_late(deed what) {
+static void is_late(deed what, int makes) {
     const long long all = INSTRUCTIONS * OCCURRENCES;
     long long count = 0;
     does = what;
@@ -111,7 +128,8 @@ static void is_late(deed what) {
     for (int i = 0; i < LATE; i++) WANT(PAPI_read(set, &count), PAPI_OK);
     set_handler(late_handler);
     tick(MICROSECONDS);
-    while (handled < ENOUGH) {
+    while (handled < (makes ? MANY : ENOUGH)) {
+        if (makes) make_and_ask();
         WANT(PAPI_read(set, &count), PAPI_OK);
         WANT(count == all || (count == 0 && what != READS && what != STOPS), 1);
     }
@@ -130,7 +148,7 @@ static void are_late(void) {
             int status;
             pid_t child = fork();
             if (child == 0) {
-                is_late((deed)what);
+                is_late((deed)what, round == 0);
                 _exit(0);
             }
             WANT(waitpid(child, &status, 0), child);
@@ -144,6 +162,7 @@ int main(void) {
     set_handler(handler);
     tick(MICROSECONDS);
     count_for_long();
+    for (int i = 0; i < CALLS / 10; i++) make_and_ask();
     runs_counts = 1;
     count_for_long();
     tell_refused();
