@@ -2,12 +2,12 @@
 """Runs tests in a copy of the repository for `mutants`, at the top of the folder with the tests: mutant_tests.py RESULT SEEN NAME..
 
 A name is a module's or a test's. With a folder SEEN all are run, and what each test runs of the instrumented files is written there (seen_lines.py). Without (`-`) the
-first that fails is the end. RESULT gets a line for each test: how it ended, its seconds and its name."""
+first that fails is the end. RESULT gets a line for each test: how it ended, its seconds of a processor and its name."""
 
 from __future__ import annotations
 
+import os
 import sys
-import time
 import unittest
 from pathlib import Path
 from typing import Iterator
@@ -19,6 +19,11 @@ def each_of(tests: unittest.TestSuite) -> Iterator[unittest.TestCase]:
             yield from each_of(test)
         else:
             yield test
+
+
+def processor_seconds() -> float:
+    """What this process took, with all that it has started. The time of day says more of the other work on the machine."""
+    return sum(os.times()[:4])
 
 
 class Watched(unittest.TestResult):
@@ -33,7 +38,7 @@ class Watched(unittest.TestResult):
     def startTest(self, test: unittest.TestCase) -> None:
         super().startTest(test)
         self.number += 1
-        self.begun = time.monotonic()
+        self.begun = processor_seconds()
         if self.seen:
             say_current(self.seen, self.number)
 
@@ -43,7 +48,7 @@ class Watched(unittest.TestResult):
     def stopTest(self, test: unittest.TestCase) -> None:
         failed = any(case is test or getattr(case, "test_case", None) is test for case, _ in (*self.failures, *self.errors))
         skipped = any(case is test for case, _ in self.skipped)
-        self.tell("failed" if failed else "skipped" if skipped else "passed", test, time.monotonic() - self.begun)
+        self.tell("failed" if failed else "skipped" if skipped else "passed", test, processor_seconds() - self.begun)
         super().stopTest(test)
 
 

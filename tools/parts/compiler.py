@@ -5,6 +5,7 @@ from __future__ import annotations
 import os
 import signal
 import subprocess
+from typing import Sequence
 
 from parts.command import Fault, uninterrupted
 
@@ -16,26 +17,32 @@ def compiler() -> list[str]:
     return os.environ.get("CC", "").split() or ["cc"]
 
 
-def run_compiler(*words: str, text: str = "") -> subprocess.CompletedProcess[str]:
-    """The compiler with these words and this standard input, and what it says. A fault if it can't be run. What it has started ends with it, whatever ends it."""
-    command = [*compiler(), *words]
+def run_group(command: Sequence[str], text: str = "") -> subprocess.CompletedProcess[str]:
+    """A command with this standard input, and what it says. What it has started ends with it, whatever ends it."""
     child: subprocess.Popen[str] | None = None
     try:
         with uninterrupted():
             child = subprocess.Popen(command, stdin=subprocess.PIPE, stdout=subprocess.PIPE, stderr=subprocess.PIPE, text=True, encoding="utf-8", errors="replace",
                                      start_new_session=True)
         out, err = child.communicate(text)
-    except BaseException as error:
+    except BaseException:
         if child is not None:
             _end(child)
-        elif isinstance(error, OSError):
-            raise Fault(f"no C compiler: {command[0]}: {error.strerror}") from None
         raise
     return subprocess.CompletedProcess(command, child.returncode, out, err)
 
 
+def run_compiler(*words: str, text: str = "") -> subprocess.CompletedProcess[str]:
+    """The compiler with these words and this standard input, and what it says. A fault if it can't be run."""
+    command = [*compiler(), *words]
+    try:
+        return run_group(command, text)
+    except OSError as error:
+        raise Fault(f"no C compiler: {command[0]}: {error.strerror}") from None
+
+
 def _end(child: subprocess.Popen[str]) -> None:
-    """Ends a compiler and its passes. At first they may remove what they have made."""
+    """Ends a command and what it has started. At first they may remove what they have made."""
     for number in (signal.SIGTERM, signal.SIGKILL):
         try:
             os.killpg(child.pid, number)

@@ -6,12 +6,12 @@ from __future__ import annotations
 import hashlib
 import os
 import shutil
-import subprocess
 import tempfile
 from pathlib import Path
 from typing import Mapping
 
 from parts.command import Fault
+from parts.compiler import run_group
 
 SOURCES = Path(__file__).resolve().parent.parent / "valgrind"
 # Where distributions put what Valgrind's own launcher and tools take.
@@ -52,7 +52,7 @@ def tool() -> Path:
     program = cache_folder() / f"valgrind-{hashlib.sha256(text).hexdigest()[:32]}" / f"{NAME}-amd64-linux"
     if not program.exists():
         program.parent.mkdir(exist_ok=True)
-        done = subprocess.run(["/bin/sh", str(SOURCES / "build"), str(program)], capture_output=True, text=True, errors="replace")
+        done = run_group(["/bin/sh", str(SOURCES / "build"), str(program)])
         if done.returncode:
             raise Fault(done.stderr.strip() or f"the tool of Valgrind can't be built: status {done.returncode}")
     return program

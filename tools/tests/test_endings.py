@@ -217,23 +217,51 @@ class Signals(Ending):
             for words in ((str(TOOLS / "plot"),), (str(TOOLS / "preset_lines"), "unit")):
                 self.assertEqual(self.end(number, *words), (128 + number, b""), (number, words))
 
+    def ended_by(self, number: int, *words: str, **variables: str) -> tuple[int, bytes]:
+        """The status of a tool that is sent a signal when a program that it has started has written its number into `pid`, and is slow. No such program is left."""
+        pid = self.folder / "pid"
+        pid.unlink(missing_ok=True)
+        child = subprocess.Popen(words, stdin=subprocess.DEVNULL, stderr=subprocess.PIPE, cwd=self.folder, env={**os.environ, **variables},
+                                 preexec_fn=lambda: signal.signal(signal.SIGINT, signal.default_int_handler))
+        end = time.monotonic() + PATIENCE
+        while not (pid.exists() and pid.read_text().strip()) and time.monotonic() < end:
+            time.sleep(0.01)
+        child.send_signal(number)
+        _, told = child.communicate(timeout=PATIENCE)
+        self.assertFalse(Path("/proc", pid.read_text().strip()).exists())
+        return child.returncode, told
+
+    def script(self, name: str, text: str) -> str:
+        path = self.write(name, f"#!/bin/sh\n{text}")
+        Path(path).chmod(0o755)
+        return path
+
     def test_nothing_is_left_behind(self) -> None:
         """What a tool has started is ended, and its folder is gone."""
         (self.folder / "tmp").mkdir()
-        self.write("slow", "#!/bin/sh\necho $$ >\"$1.pid\"\ncase $* in *probe.c*) echo $$ >pid; exec sleep 60 ;; esac\nexec cc \"$@\"\n")
-        (self.folder / "slow").chmod(0o755)
+        slow = self.script("slow", "echo $$ >\"$1.pid\"\ncase $* in *probe.c*) echo $$ >pid; exec sleep 60 ;; esac\nexec cc \"$@\"\n")
         for number in (signal.SIGINT, signal.SIGTERM, signal.SIGHUP):
-            (self.folder / "pid").unlink(missing_ok=True)
-            environment = {**os.environ, "CC": str(self.folder / "slow"), "TMPDIR": str(self.folder / "tmp")}
-            child = subprocess.Popen([str(TOOLS / "make_fortran"), "--check"], stdin=subprocess.DEVNULL, stderr=subprocess.PIPE, cwd=self.folder, env=environment,
-                                     preexec_fn=lambda: signal.signal(signal.SIGINT, signal.default_int_handler))
-            end = time.monotonic() + PATIENCE
-            while not ((self.folder / "pid").exists() and (self.folder / "pid").read_text().strip()) and time.monotonic() < end:
-                time.sleep(0.01)
-            child.send_signal(number)
-            _, told = child.communicate(timeout=PATIENCE)
-            self.assertEqual((child.returncode, told, os.listdir(self.folder / "tmp")), (128 + number, b"", []))
-            self.assertFalse(Path("/proc", (self.folder / "pid").read_text().strip()).exists())
+            ended = self.ended_by(number, str(TOOLS / "make_fortran"), "--check", CC=slow, TMPDIR=str(self.folder / "tmp"))
+            self.assertEqual((ended, os.listdir(self.folder / "tmp")), ((128 + number, b""), []))
+
+    @needs_command("valgrind", "valgrind")
+    def test_nothing_is_left_of_the_tool_of_valgrind(self) -> None:
+        """It is built when it is used first."""
+        slow = self.script("slow", f"echo $$ >{self.folder}/pid\nexec sleep 60\n")
+        for number in (signal.SIGINT, signal.SIGTERM, signal.SIGHUP):
+            ended = self.ended_by(number, str(TOOLS / "record"), "-o", "stream", "/bin/true", CC=slow, XDG_CACHE_HOME=str(self.folder / "cache"))
+            left = [path for path in (self.folder / "cache").rglob("*") if path.name.startswith("kistalub-")]
+            self.assertEqual((ended, left), ((128 + number, b""), []))
+
+    def test_what_compiles_for_a_report_may_clean_up(self) -> None:
+        (self.folder / "bin").mkdir()
+        self.script("bin/papi", f"trap 'echo >{self.folder}/cleaned; exit 143' TERM\necho $$ >{self.folder}/pid\nwhile :; do sleep 0.05; done\n")
+        code = ("import pathlib, sys\nfrom parts.command import end_with\nfrom parts.report import asking\nasking.ROOT = pathlib.Path(sys.argv[1])\n"
+                "def work():\n with asking.Tools(asking.Tables('unit')):\n  pass\nend_with('report', work)\n")
+        for number in (signal.SIGINT, signal.SIGTERM, signal.SIGHUP):
+            ended = self.ended_by(number, sys.executable, "-B", "-c", code, str(self.folder), PYTHONPATH=f"{TOOLS}:{ROOT}/bin/hints")
+            self.assertEqual(ended, (128 + number, b""))
+            (self.folder / "cleaned").unlink()
 
     def test_an_interrupt_of_an_import_is_quiet(self) -> None:
         code = "import os, signal\nimport parts.quiet\nos.kill(os.getpid(), signal.SIGINT)\nprint('done')\n"

@@ -9,7 +9,7 @@ import sys
 import tempfile
 from dataclasses import dataclass
 from pathlib import Path
-from typing import Iterable, Sequence
+from typing import Iterable, Mapping, Sequence
 
 from files import Unread, read_lines
 
@@ -45,15 +45,15 @@ class Answer:
         return [line for line in self.errors if not line.startswith(OF_BUILD)]
 
 
-def _answer_of(command: Sequence[str], environment: dict[str, str]) -> Answer:
-    """What a command answers. If this process is told to end, the command is too."""
-    with subprocess.Popen(command, stdin=subprocess.DEVNULL, stdout=subprocess.PIPE, stderr=subprocess.PIPE, env=environment) as child:
+def _answer_of(command: Sequence[str], environment: Mapping[str, str], to: int | None = subprocess.PIPE) -> Answer:
+    """What a command answers. If this process is told to end, the command is too. With `to` its standard error goes elsewhere."""
+    with subprocess.Popen(command, stdin=subprocess.DEVNULL, stdout=subprocess.PIPE, stderr=to, env=environment) as child:
         try:
             out, errors = child.communicate()
         except BaseException:
             child.terminate()
             raise
-    return Answer(child.returncode, *(output.decode("utf-8", "surrogateescape").splitlines() for output in (out, errors)))
+    return Answer(child.returncode, *(output.decode("utf-8", "surrogateescape").splitlines() for output in (out, errors or b"")))
 
 
 def read_again(name: str) -> list[str]:
@@ -84,7 +84,7 @@ class Tools:
 
     def __enter__(self) -> Tools:
         # If that takes a minute, a line on standard error says so.
-        subprocess.run([str(ROOT / "bin/papi"), "--compile"], stdin=subprocess.DEVNULL, stdout=subprocess.DEVNULL)
+        _answer_of([str(ROOT / "bin/papi"), "--compile"], os.environ, to=None)
         return self
 
     def __exit__(self, *error: object) -> None:
