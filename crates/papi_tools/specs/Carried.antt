@@ -1,5 +1,5 @@
 -- The contract of a tool: what a call with these words writes, how it ends, and what it tells the handlers.
-use Rattle.std.specs.Prelude.{◌≡◌, ◌≢◌, ◌<◌, ◌⊎◌, ◌∷◌, ℕ, List, Option, String, Err, map, string_bytes}
+use Rattle.std.specs.Prelude.{◌≡◌, ◌≢◌, ◌∷◌, ℕ, List, Option, String, Err, map, string_bytes}
 use Rattle.std.specs.declared.alloc.Global.{Global}
 use Rattle.papi_base.specs.Outside.{Held, Rose}
 use Rattle.overflow_dispatch.specs.declared.handler.Note.{Note}
@@ -7,7 +7,7 @@ use Rattle.overflow_dispatch.specs.Notes.{EachGrown}
 use Rattle.tool_words.specs.Form.{form}
 use Rattle.papi_tools.specs.Looking.{FilesSeen, SaysNo, Shows, SinkSeen, files_seen, sink_seen}
 use Rattle.papi_tools.specs.Openings.{ForSome, Openings}
-use Rattle.papi_tools.specs.Saying.{HasSinkCause, IsJudged, Says, SaysAll, TellsNotes}
+use Rattle.papi_tools.specs.Saying.{HasSinkCause, Says, TellsNotes}
 use Rattle.papi_tools.specs.Verdict.{verdict, verdict_for}
 use Rattle.papi_tools.specs.declared.refusal.Refusal.TheVariants.{NoSuchFile}
 use Rattle.papi_tools.specs.declared.status.Status.{Status}
@@ -17,16 +17,10 @@ use Rattle.papi_tools.specs.declared.status.Status.TheVariants as status
 pub record CarriesOutOver (openings : Openings) (words : List (List ℕ)) (s : Status) (files files' : FilesSeen) (out out' err err' : SinkSeen) : Type 0 where
   -- what the words come to is said
   pub says : Says s (verdict words openings).said out.taken out'.taken err.taken err'.taken
-  -- it has its cause in the words or in the counts of the files
+  -- it has its cause in the words, in the counts of the files or in that of a sink
   pub shows : s ≢ status.Memory → Shows (SaysNo (form words)) files.faults files'.faults (verdict words openings).said.outcome
   pub missing : s ≢ status.Memory → (name : List ℕ) → verdict_for openings (form words) ≡ Err (NoSuchFile name) → Rose files.misses files'.misses
-  pub no : s ≡ status.No → SaysNo (form words)
-  pub read_fault : s ≡ status.ReadFault → Rose files.faults files'.faults
   pub sinks : HasSinkCause s out.faults out'.faults err.faults err'.faults
-  pub rises : (out.faults < out'.faults) ⊎ (err.faults < err'.faults) → s ≡ status.WriteFault
-  pub complete : ¬ (Rose files.faults files'.faults) → ¬ (Rose out.faults out'.faults) → ¬ (Rose err.faults err'.faults) → IsJudged s
-  -- if no sink failed, all of it is said, or memory ran out
-  pub whole : ¬ (Rose out.faults out'.faults) → ¬ (Rose err.faults err'.faults) → SaysAll s (verdict words openings).said out.taken out'.taken err.taken err'.taken
   -- every source that was opened is closed
   pub returned : files'.lent ≡ files.lent
 
