@@ -6,6 +6,7 @@ pub mod Slots
 pub mod Units
 pub mod Changed
 pub mod Shown
+pub mod Numbers
 pub mod Starting
 pub mod Zeroed
 pub mod Accumulated

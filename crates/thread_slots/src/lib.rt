@@ -13,6 +13,7 @@ pub mod changing;
 pub mod counting;
 pub mod event_places;
 mod measuring;
+mod numbers;
 pub mod pins;
 mod places;
 mod raw_reading;

@@ -1,13 +1,15 @@
 //! What calls show of a set (PAPI_read(3), PAPI_state(3)).
-ghost use Rattle.std.specs.Prelude.{◌≡◌, None};
+ghost use Rattle.std.specs.Prelude.{◌≡◌, None, length};
 ghost use Rattle.event_sets.specs.Assigning.{counters_for};
 ghost use Rattle.session_model.specs.Replies.{state_bits};
+ghost use Rattle.thread_slots.specs.Numbers.{AreGiven};
 ghost use Rattle.thread_slots.specs.Shown.{IsTellable, values_shown};
 ghost use Rattle.thread_slots.specs.Slots.{is_counting};
 
 use crate::event_places::EventPlaces;
+use crate::numbers::Numbers;
 use crate::slot::{Counting, Slot};
-use crate::values::values_of;
+use crate::values::{values_of, write_values};
 use counter_unit::Unit;
 use papi_base::bits::state_of;
 use papi_base::{Places, Values};
@@ -20,16 +22,39 @@ impl Slot {
         requires { IsTellable book.now units.now time self.now }
         ensures { into.new ≡ values_shown book.now units.now time self.now }
     {
-        let numbers = self.numbers(units, time);
-        match &self.counting {
-            Counting::OnUnit { places, .. } => {
-                values_of(book, &self.set, places.all(), &numbers, into);
-            }
-            _ => {
-                let places = EventPlaces::of(book, &self.set);
-                values_of(book, &self.set, places.all(), &numbers, into);
+        if let Counting::OnUnit { pins, places, .. } = &self.counting {
+            if let Some(comp) = self.set.component() {
+                let counted = Numbers::Counted(&units[comp as usize], pins);
+                values_of(book, &self.set, places.all(), counted, into);
+                return;
             }
         }
+        let numbers = self.numbers(units, time);
+        let places = EventPlaces::of(book, &self.set);
+        let listed = Numbers::Listed(&numbers);
+        values_of(book, &self.set, places.all(), listed, into);
+    }
+
+    /// Writes the same into the first places of an array, as far as there is room, and gives their number: PAPI_read(3).
+    pub fn read_into(&self, units: &[Unit], book: &PresetBook, time: u64, out: &mut [i64]) -> u32
+        requires { IsTellable book.now units.now time self.now }
+        ensures count { result ≡ length (values_shown book.now units.now time self.now) }
+        ensures given { let values = values_shown book.now units.now time self.now
+            in AreGiven values out.old out.new }
+    {
+        let count = self.set.events().len();
+        if let Counting::OnUnit { pins, places, .. } = &self.counting {
+            if let Some(comp) = self.set.component() {
+                let counted = Numbers::Counted(&units[comp as usize], pins);
+                write_values(book, &self.set, places.all(), counted, out);
+                return count;
+            }
+        }
+        let numbers = self.numbers(units, time);
+        let places = EventPlaces::of(book, &self.set);
+        let listed = Numbers::Listed(&numbers);
+        write_values(book, &self.set, places.all(), listed, out);
+        count
     }
 
     /// The bits of its state: PAPI_state(3).

@@ -6,10 +6,12 @@ ghost use Rattle.postfix_rules.specs.Presets.{event_value, natives_of_event, rul
 ghost use Rattle.postfix_rules.specs.Rules.{rule_value};
 ghost use Rattle.thread_slots.specs.declared.values.TheConstants.{NUMBER_BITS};
 ghost use Rattle.thread_slots.specs.EventPlaces.{places_of};
+ghost use Rattle.thread_slots.specs.Numbers.{AreGiven, AreReadable, numbers_at};
 ghost use Rattle.thread_slots.specs.Shown.{number_in};
 
+use crate::numbers::{Numbers, number_at};
 use event_sets::EventSet;
-use papi_base::{Counts, EventRef, Values};
+use papi_base::{EventRef, Values};
 use postfix_rules::{MOST_NATIVES, PresetBook, value_of};
 
 /// Each number that a set shows is below 2 to this power, so it is the same as a signed number of 64 bits.
@@ -22,26 +24,14 @@ struct EventValue {
     natives: usize,
 }
 
-/// The number at a place, and 0 if there is no such place.
-#[inline(always)]
-fn number_at(numbers: &Counts, place: u8) -> u64
-    ensures { result ≡ slice_index numbers.now place }
-{
-    let place = u32::from(place);
-    if place < numbers.len() {
-        numbers.at(place)
-    } else {
-        0
-    }
-}
-
 /// The numbers at these places.
 #[inline(always)]
-fn own_numbers(numbers: &Counts, places: &[u8]) -> [i64; MOST_NATIVES as usize]
-    requires small { All (λ t. t < 2 ^ NUMBER_BITS) numbers.now }
+fn own_numbers(numbers: Numbers<'_>, places: &[u8]) -> [i64; MOST_NATIVES as usize]
+    requires readable { AreReadable numbers }
+    requires small { All (λ t. t < 2 ^ NUMBER_BITS) (numbers_at numbers) }
     requires few { length places.now ≤ MOST_NATIVES }
     ensures { take (length places.now) result
-        ≡ map (λ p. pos (slice_index numbers.now p)) places.now }
+        ≡ map (λ p. pos (slice_index (numbers_at numbers.entry) p)) places.now }
 {
     let mut counts = [0i64; MOST_NATIVES as usize];
     for i in 0..places.len() {
@@ -52,15 +42,21 @@ fn own_numbers(numbers: &Counts, places: &[u8]) -> [i64; MOST_NATIVES as usize]
 
 /// The value of an event whose native events stand at the first of these places.
 #[inline(always)]
-fn value_of_event(book: &PresetBook, numbers: &Counts, places: &[u8], e: &EventRef) -> EventValue
-    requires small { All (λ t. t < 2 ^ NUMBER_BITS) numbers.now }
+fn value_of_event(
+    book: &PresetBook,
+    numbers: Numbers<'_>,
+    places: &[u8],
+    e: &EventRef,
+) -> EventValue
+    requires readable { AreReadable numbers }
+    requires small { All (λ t. t < 2 ^ NUMBER_BITS) (numbers_at numbers) }
     requires held { IsHeld book.now e.now }
     requires there { length (natives_of_event book.now e.now) ≤ length places.now }
     ensures natives { result.natives ≡ length (natives_of_event book.now e.now) }
     ensures value { let own = take (length (natives_of_event book.now e.now)) places.now
         in result.value
         ≡ rule_value (rule_of_event book.now e.now)
-        (map (λ p. pos (slice_index numbers.now p)) own) }
+        (map (λ p. pos (slice_index (numbers_at numbers.entry) p)) own) }
 {
     match e {
         EventRef::Native(_) => EventValue {
@@ -86,17 +82,18 @@ fn value_of_event(book: &PresetBook, numbers: &Counts, places: &[u8], e: &EventR
 
 /// The value of each event of the set, if the places of its native events and the number of each are given.
 #[inline(always)]
-pub fn values_of(
+pub(crate) fn values_of(
     book: &PresetBook,
     set: &EventSet,
     places: &[u8],
-    numbers: &Counts,
+    numbers: Numbers<'_>,
     into: &mut Values,
 )
     requires places { places.now ≡ places_of book.now set.now.natives set.now.rest.events }
-    requires small { All (λ t. t < 2 ^ NUMBER_BITS) numbers.now }
+    requires readable { AreReadable numbers }
+    requires small { All (λ t. t < 2 ^ NUMBER_BITS) (numbers_at numbers) }
     requires held { All (IsHeld book.now) set.now.rest.events }
-    ensures { let number = number_in set.now.natives numbers.now
+    ensures { let number = number_in set.now.natives (numbers_at numbers.entry)
         in into.new ≡ map (event_value book.now number) set.now.rest.events }
 {
     *into = Values::new();
@@ -106,5 +103,31 @@ pub fn values_of(
         let told = value_of_event(book, numbers, &places[at..], &events.at(i));
         into.push(told.value);
         at += told.natives;
+    }
+}
+
+/// The same into the first places of an array, as far as there is room.
+#[inline(always)]
+pub(crate) fn write_values(
+    book: &PresetBook,
+    set: &EventSet,
+    places: &[u8],
+    numbers: Numbers<'_>,
+    out: &mut [i64],
+)
+    requires places { places.now ≡ places_of book.now set.now.natives set.now.rest.events }
+    requires readable { AreReadable numbers }
+    requires small { All (λ t. t < 2 ^ NUMBER_BITS) (numbers_at numbers) }
+    requires held { All (IsHeld book.now) set.now.rest.events }
+    ensures { let number = number_in set.now.natives (numbers_at numbers.entry)
+        in AreGiven (map (event_value book.now number) set.now.rest.events) out.old out.new }
+{
+    let events = set.events();
+    let most = out.len().min(events.len() as usize);
+    let mut at = 0;
+    for i in 0..most {
+        let own = value_of_event(book, numbers, &places[at..], &events.at(i as u32));
+        out[i] = own.value;
+        at += own.natives;
     }
 }

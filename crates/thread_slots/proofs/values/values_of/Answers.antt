@@ -2,6 +2,7 @@ use Rattle.thread_slots.proofs.Words.{◌≡◌, FitsSigned, List, ℕ, rules, �
 use Rattle.std.proofs.Common.{◌-◌}
 use Rattle.std.proofs.lemmas.List.{drop-drop, length-drop, take_all}
 use Rattle.thread_slots.specs.EventPlaces.{places_of, places_of_event}
+use Rattle.thread_slots.specs.Numbers.{numbers_at}
 use Rattle.thread_slots.proofs.Lists.{drop_at}
 use Rattle.thread_slots.proofs.Reading.{next_inside, next_rest, next_value}
 use Rattle.thread_slots.proofs.Searching.{map_more}
@@ -32,7 +33,7 @@ loop-i-preserved c =
     let w = goal.at.loop-i-preserved c in
     let book = c.args.book.now in
     let natives = c.args.set.now.natives in
-    let numbers = c.args.numbers.now in
+    let numbers = numbers_at c.args.numbers in
     let v = c.value_of_event-told.result.value in
     let e = c.at.result in
     let fits : FitsSigned w64 v = search rules in

@@ -1,5 +1,6 @@
 use Rattle.thread_slots.proofs.Words.{◌≡◌, ◌≤◌, ◌++◌, length, map, drop, event_value, number_in}
 use Rattle.thread_slots.specs.EventPlaces.{places_of}
+use Rattle.thread_slots.specs.Numbers.{numbers_at}
 use Rattle.thread_slots.proofs.values.values_of.Given as goal
 
 abbrev pub invariant-loop-i : goal.invariant-loop-i
@@ -7,5 +8,5 @@ invariant-loop-i l = record {
   so_far : length l.into ≡ l.i;
   inside : l.at ≤ length l.places;
   rest : drop l.at l.places ≡ places_of l.book l.set.natives (drop l.i l.events);
-  done : l.into ++ map (event_value l.book (number_in l.set.natives l.numbers)) (drop l.i l.events) ≡ map (event_value l.book (number_in l.set.natives l.numbers)) l.events;
+  done : l.into ++ map (event_value l.book (number_in l.set.natives (numbers_at l.numbers))) (drop l.i l.events) ≡ map (event_value l.book (number_in l.set.natives (numbers_at l.numbers))) l.events;
 }
