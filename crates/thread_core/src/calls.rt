@@ -1,6 +1,6 @@
 //! The calls on a thread's event sets, in the order of their manual pages' table: registering, making and filling sets,
 //! counting, and looking.
-ghost use Rattle.std.specs.Prelude.{◌≡◌, ◌≢◌, IfErr};
+ghost use Rattle.std.specs.Prelude.{◌≡◌, ◌≢◌, IfErr, IfOk, OnErr, OnOk, length};
 ghost use Rattle.std.specs.Option.{option_copied};
 ghost use Rattle.papi_base.specs.declared.code.Code.TheVariants as code;
 ghost use Rattle.postfix_rules.specs.Fitting.{IsNamed};
@@ -10,6 +10,7 @@ ghost use Rattle.call_type.specs.declared.call.Call.TheVariants as call;
 ghost use Rattle.session_model.specs.declared.reply.Body.TheVariants as body;
 ghost use Rattle.thread_core.specs.Following.{Follows, IsRefusal, changed_reply, reply_of, values_reply};
 ghost use Rattle.thread_core.specs.Stands.{AgreesWith};
+ghost use Rattle.thread_core.specs.Told.{AreGiven, values_in};
 ghost use Rattle.thread_slots.specs.Altering.{IsFor, changing_call};
 
 use crate::refusal::set_under;
@@ -212,6 +213,24 @@ impl Core {
         };
         slot.read(&self.units, book, self.time(), into);
         Code::Ok
+    }
+
+    /// Writes the same into the first places of an array, as far as there is room, and gives their number: PAPI_read(3).
+    /// ENOEVST if there is no such set; `out` then stays as it is.
+    pub fn read_into(&self, book: &PresetBook, set: u32, out: &mut [i64]) -> Result<u32, Code>
+        requires { AgreesWith book.now self.now }
+        ensures follows { let values = values_in book.now self.now set
+            in Follows book.now self.now self.now (call.Read set)
+            (reply_of (λ n. body.Values values) result) }
+        ensures count { IfOk result (λ n. n ≡ length (values_in book.now self.now set)) }
+        ensures given { OnOk result (AreGiven (values_in book.now self.now set) out.old out.new) }
+        ensures refused { IfErr result (λ c. c ≡ code.Enoevst) }
+        ensures kept { OnErr result (out.new ≡ out.old) }
+    {
+        let Some(slot) = self.set(set) else {
+            return Err(Code::Enoevst);
+        };
+        Ok(slot.read_into(&self.units, book, self.time(), out))
     }
 
     /// Adds the value of each event of a set to the caller's, writes the sums, and zeroes the counts of the set:
