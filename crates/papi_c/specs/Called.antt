@@ -1,5 +1,5 @@
 -- What the calls from C do.
-use Rattle.std.specs.Prelude.{ℕ, ℤ, ◌≡◌, ◌≢◌, ◌++◌, ◌⊎◌, drop, length, negsuc, take, IsUtf8, List, [], Option, Result}
+use Rattle.std.specs.Prelude.{ℕ, ℤ, ◌≡◌, ◌≢◌, ◌⊎◌, length, negsuc, IsUtf8, List, [], Option, Result, Ok, Err}
 use Rattle.papi_base.specs.declared.code.Code.{Code}
 use Rattle.papi_base.specs.declared.code.Code.TheVariants as papi
 use Rattle.papi_base.specs.declared.native.EventRef.{EventRef}
@@ -11,6 +11,7 @@ use Rattle.session_model.specs.declared.reply.Body.{Body}
 use Rattle.session_model.specs.declared.reply.Body.TheVariants as body
 use Rattle.session_model.specs.declared.reply.Reply.{Reply}
 use Rattle.thread_core.specs.Following.{reply_of, values_reply}
+pub use Rattle.thread_core.specs.Told.{AreGiven}
 use Rattle.papi_calls.specs.Calls as Calls
 use Rattle.papi_calls.specs.Calls.{Made}
 use Rattle.papi_calls.specs.Codes.{coded}
@@ -52,9 +53,15 @@ abbrev pub GivesNumber : Option LibraryView → Option LibraryView → Call → 
 GivesNumber old new made shown number before after =
     Through old new (λ o n. GaveNumber o n made shown number before after) ((number ≡ negsuc 15) × (after ≡ before))
 
--- the values stand at the first places, as far as there is room, and what is past them stays
-abbrev pub AreGiven : List ℤ → List ℤ → List ℤ → Type 0
-AreGiven values before after = after ≡ take (length before) values ++ drop (length values) before
+-- the code of a call that gives so many values, or is refused by a code
+abbrev pub code_of : Result ℕ Code → Code
+code_of (Ok n) = papi.Ok
+code_of (Err c) = c
+
+-- how many it gives
+abbrev pub count_of : Result ℕ Code → ℕ
+count_of (Ok n) = n
+count_of (Err c) = 0
 
 -- the call is made as the model's step has it: the number is that of its code, and its values are given, which are none if it is refused
 pub record GaveValues (old new : LibraryView) (made : Call) (n : ℤ) (count : ℕ) (before after : List ℤ) : Type 0 where

@@ -1,7 +1,7 @@
 //! The calls that give values.
 ghost use Rattle.std.specs.Prelude.{◌≡◌, length};
 ghost use Rattle.papi_base.specs.Codes.{number_of};
-ghost use Rattle.papi_c.specs.Called.{AreGiven, GivesValues};
+ghost use Rattle.papi_c.specs.Called.{AreGiven, GivesValues, code_of, count_of};
 ghost use Rattle.call_type.specs.declared.call.Call.TheVariants as call;
 
 use crate::handle::{Handle, on_library};
@@ -22,6 +22,23 @@ fn give(code: Code, values: &Values, out: &mut [i64], count: &mut u32) -> i32
     code_number(code)
 }
 
+// How many values a call gave, which are none if a code refused it, and the number of its code.
+fn give_count(answer: Result<u32, Code>, count: &mut u32) -> i32
+    ensures number { result ≡ number_of (code_of answer) }
+    ensures count { count.new ≡ count_of answer }
+{
+    match answer {
+        Ok(n) => {
+            *count = n;
+            0
+        }
+        Err(code) => {
+            *count = 0;
+            code_number(code)
+        }
+    }
+}
+
 /// PAPI_read(3). The values go into `out` as far as there is room, and `count` has their number.
 #[unsafe(no_mangle)]
 pub extern "C" fn kistalub_read(
@@ -34,9 +51,8 @@ pub extern "C" fn kistalub_read(
     ensures gives { GivesValues h.old.library h.new.library (call.Read set) result count.old
         count.new out.old out.new }
 {
-    let mut values = Values::new();
-    let code = on_library!(alloc, h, |library| library.read(set, &mut values));
-    give(code, &values, out, count)
+    let answer = on_library!(alloc, h, |library| library.read_into(set, out));
+    give_count(answer, count)
 }
 
 /// PAPI_stop(3). The values go into `out` as far as there is room, and `count` has their number.

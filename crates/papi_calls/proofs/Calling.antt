@@ -1,19 +1,23 @@
 -- A call on the session under the catalog's book is one on the library.
-use Rattle.std.proofs.Common.{◌≡◌, ◌∙◌, List, ap, refl, subst, sym}
-use Rattle.std.specs.Prelude.{Result}
+use Rattle.std.proofs.Common.{◌≡◌, ◌∙◌, ℕ, List, ap, refl, subst, sym}
+use Rattle.std.specs.Prelude.{ℤ, Result}
+use Rattle.call_type.specs.declared.call.Call.TheVariants as call
 use Rattle.component_table.specs.Catalogs.{CatalogView}
 use Rattle.papi_base.specs.declared.code.Code.{Code}
 use Rattle.papi_base.specs.declared.native.EventRef.{EventRef}
 use Rattle.papi_base.specs.declared.native.Native.{Native}
-use Rattle.papi_calls.specs.Calls.{Made}
+use Rattle.papi_calls.specs.Calls.{Made, values_told}
 use Rattle.papi_calls.specs.Libraries.{IsWhole, LibraryView}
 use Rattle.postfix_rules.specs.Fitting.{IsNamed}
 use Rattle.postfix_rules.specs.Presets.{Book}
 use Rattle.postfix_rules.specs.Sameness.{joined_by}
 use Rattle.session_model.specs.World.{mentions_of_call}
 use Rattle.session_model.specs.CallTypes.{Call}
+use Rattle.session_model.specs.declared.reply.Body.TheVariants as body
 use Rattle.session_model.specs.declared.reply.Reply.{Reply}
+use Rattle.thread_core.specs.Following.{reply_of}
 use Rattle.thread_core.specs.Stands.{AgreesWith}
+use Rattle.thread_core.specs.Told.{values_in}
 use Rattle.thread_session.specs.Follows.{Does}
 use Rattle.thread_session.specs.SessionView.{SessionView}
 use Rattle.thread_session.specs.Stands.{IsReady}
@@ -46,6 +50,19 @@ module _ (catalog : CatalogView) (mentioned : List Native) (book : Book) where
   made_still session call given is does before view known =
       subst (λ (l : LibraryView). Made l l call given) view
       (record { does = subst (λ (b : Book). Does b session session call given) is does; catalog = refl; mentioned = sym known })
+
+  -- the values that the session tells are the library's
+  pub told : (session : SessionView) (set : ℕ) → book ≡ catalog.book → (before : LibraryView) → record { catalog = catalog; mentioned = mentioned; session = session } ≡ before
+      → values_in book session.core set ≡ values_told before set
+  told session set is before view = ap (λ (b : Book). values_in b session.core set) is ∙ ap (λ (l : LibraryView). values_told l set) view
+
+  pub read_still : (session : SessionView) (set : ℕ) (answer : Result ℕ Code) → book ≡ catalog.book
+      → Does book session session (call.Read set) (reply_of (λ n. body.Values (values_in book session.core set)) answer) → (before : LibraryView)
+      → record { catalog = catalog; mentioned = mentioned; session = session } ≡ before → joined_by mentioned (mentions_of_call (call.Read set)) ≡ mentioned
+      → Made before before (call.Read set) (reply_of (λ n. body.Values (values_told before set)) answer)
+  read_still session set answer is does before view known =
+      subst (λ (values : List ℤ). Made before before (call.Read set) (reply_of (λ n. body.Values values) answer)) (told session set is before view)
+      (made_still session (call.Read set) (reply_of (λ n. body.Values (values_in book session.core set)) answer) is does before view known)
 
   -- ---- with an event
 

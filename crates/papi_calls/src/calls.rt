@@ -1,13 +1,14 @@
 //! The calls that take no event, each as the model's step has it.
 #![tactic(auto, using(crate::proofs::Calling::calling))]
 
-ghost use Rattle.std.specs.Prelude.{◌≡◌, ◌≢◌};
+ghost use Rattle.std.specs.Prelude.{◌≡◌, ◌≢◌, IfErr, IfOk, OnErr, OnOk, length};
 ghost use Rattle.papi_base.specs.declared.code.Code.TheVariants as code;
-ghost use Rattle.papi_calls.specs.Calls.{Made};
+ghost use Rattle.papi_calls.specs.Calls.{Made, values_told};
 ghost use Rattle.session_model.specs.Replies.{plain};
 ghost use Rattle.call_type.specs.declared.call.Call.TheVariants as call;
 ghost use Rattle.session_model.specs.declared.reply.Body.TheVariants as body;
 ghost use Rattle.thread_core.specs.Following.{reply_of, values_reply};
+ghost use Rattle.thread_core.specs.Told.{AreGiven};
 
 use crate::library::Library;
 use papi_base::{Code, Events, Values};
@@ -94,12 +95,18 @@ impl Library {
         self.session.stop(self.catalog.book(), set, into)
     }
 
-    /// The value of each event of a set: PAPI_read(3). ENOEVST; `into` then stays as it is.
-    pub fn read(&self, set: u32, into: &mut Values) -> Code
-        ensures made { Made self.now self.now (call.Read set) (values_reply result into.new) }
-        ensures kept { result ≢ code.Ok → into.new ≡ into.old }
+    /// Writes the value of each event of a set into the first places of an array, as far as there is room, and gives their
+    /// number: PAPI_read(3). ENOEVST; `out` then stays as it is.
+    #[inline]
+    pub fn read_into(&self, set: u32, out: &mut [i64]) -> Result<u32, Code>
+        ensures made { Made self.now self.now (call.Read set)
+            (reply_of (λ n. body.Values (values_told self.now set)) result) }
+        ensures count { IfOk result (λ n. n ≡ length (values_told self.now set)) }
+        ensures given { OnOk result (AreGiven (values_told self.now set) out.old out.new) }
+        ensures refused { IfErr result (λ c. c ≡ code.Enoevst) }
+        ensures kept { OnErr result (out.new ≡ out.old) }
     {
-        self.session.read(self.catalog.book(), set, into)
+        self.session.read_into(self.catalog.book(), set, out)
     }
 
     /// Adds the value of each event to the set's sums, gives the sums, and zeroes the counts: the model's form of PAPI_accum(3).

@@ -1,5 +1,5 @@
 //! The calls on a session's sets, each as the core makes it.
-ghost use Rattle.std.specs.Prelude.{◌≡◌, ◌≢◌, ◌++◌, IfErr, IfOk, OnErr, OnOk, false};
+ghost use Rattle.std.specs.Prelude.{◌≡◌, ◌≢◌, ◌++◌, IfErr, IfOk, OnErr, OnOk, false, length};
 ghost use Rattle.overflow_dispatch.specs.Notes.{Grown, PartAdded};
 ghost use Rattle.papi_base.specs.declared.code.Code.TheVariants as code;
 ghost use Rattle.papi_base.specs.Streams.{Coming};
@@ -11,6 +11,7 @@ ghost use Rattle.call_type.specs.declared.call.Call.TheVariants as call;
 ghost use Rattle.session_model.specs.declared.reply.Body.TheVariants as body;
 ghost use Rattle.session_model.specs.Replies.{plain};
 ghost use Rattle.thread_core.specs.Following.{IsRefusal, changed_reply, reply_of, values_reply};
+ghost use Rattle.thread_core.specs.Told.{AreGiven, values_in};
 
 use crate::answers::{make, run_reply};
 use crate::session::Session;
@@ -174,6 +175,23 @@ impl<S: Source> Session<S> {
         ensures kept { result ≢ code.Ok → into.new ≡ into.old }
     {
         self.core.read(book, set, into)
+    }
+
+    /// Writes the value of each event of a set into the first places of an array, as far as there is room, and gives their
+    /// number: PAPI_read(3). ENOEVST if there is no such set; `out` then stays as it is.
+    #[inline]
+    pub fn read_into(&self, book: &PresetBook, set: u32, out: &mut [i64]) -> Result<u32, Code>
+        requires ready { IsReady book.now self.now }
+        ensures does { let values = values_in book.now self.now.core set
+            in Does book.now self.now self.now (call.Read set)
+            (reply_of (λ n. body.Values values) result) }
+        ensures count { IfOk result (λ n. n ≡ length (values_in book.now self.now.core set)) }
+        ensures given { OnOk result
+            (AreGiven (values_in book.now self.now.core set) out.old out.new) }
+        ensures refused { IfErr result (λ c. c ≡ code.Enoevst) }
+        ensures kept { OnErr result (out.new ≡ out.old) }
+    {
+        self.core.read_into(book, set, out)
     }
 
     /// Adds the value of each event of a set to the caller's, gives the sums, and zeroes the counts: PAPI_accum(3). ENOEVST if
