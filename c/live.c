@@ -14,17 +14,15 @@
 extern const char first_byte[] __asm__("__start_kistalub_code") __attribute__((weak, visibility("hidden")));
 extern const char end_byte[] __asm__("__stop_kistalub_code") __attribute__((weak, visibility("hidden")));
 
-static int is_live;
+int kl_runs_live;
 
 __attribute__((constructor)) static void begin(void) {
-    is_live = kl_ask(KL_HELLO, (uintptr_t)first_byte, (uintptr_t)end_byte, (uintptr_t)kl_live_stub) == KL_VERSION;
-    if (is_live) kl_keep_begins();
+    kl_runs_live = kl_ask(KL_HELLO, (uintptr_t)first_byte, (uintptr_t)end_byte, (uintptr_t)kl_live_stub) == KL_VERSION;
+    if (kl_runs_live) kl_keep_begins();
 }
 
-int kl_is_live(void) { return is_live; }
-
 int kl_live_opens(thread_state *t) {
-    if (!is_live) return PAPI_OK;
+    if (!kl_runs_live) return PAPI_OK;
     t->live = calloc(1, sizeof *t->live);
     if (!t->live) return PAPI_ENOMEM;
     t->live->codes = kl_codes_of(&t->library);
@@ -164,13 +162,12 @@ void kl_live_stops(uint64_t address) {
 }
 
 void kl_live_enters(void) {
-    if (is_live) kl_ask(KL_ENTER, 0, 0, 0);
+    kl_ask(KL_ENTER, 0, 0, 0);
     thread_state *t = kl_known();
     if (t && t->live && t->live->wanted) catch_up(t, 0);
 }
 
 void kl_live_leaves(int may_start_or_stop) {
-    if (!is_live) return;
     thread_state *t = kl_known();
     if (t && t->live) look_after(t, may_start_or_stop);
     kl_ask(KL_LEAVE, 0, 0, 0);

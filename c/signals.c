@@ -16,7 +16,7 @@
 static atomic_int is_met, has_handlers;
 static _Thread_local struct { int are_waiting, cancelled; sigset_t before; } change;
 
-static int are_met(void) { return atomic_load_explicit(&has_handlers, memory_order_relaxed) || atomic_load_explicit(&is_met, memory_order_relaxed); }
+static int are_met(void) { return atomic_load_explicit(&has_handlers, memory_order_relaxed) | atomic_load_explicit(&is_met, memory_order_relaxed); }
 
 /* Signals that an instruction of the thread itself raises do not wait. */
 static int is_own(int number) { return number == SIGSEGV || number == SIGBUS || number == SIGFPE || number == SIGILL || number == SIGTRAP; }
@@ -35,7 +35,7 @@ static void note_others(sigset_t *others) {
 }
 
 /* The last signal is not looked at: in a program that runs under valgrind it has a handler of valgrind's. */
-static void look(kl_signals *s) {
+static __attribute__((noinline)) void look(kl_signals *s) {
     int found = 0;
     if (!s->looks) note_others(&s->others);
     for (int number = 1; number < SIGRTMAX && !found; number++) found = is_handled(number);
@@ -44,19 +44,19 @@ static void look(kl_signals *s) {
     s->looks++;
 }
 
-static void wait_for_end(kl_signals *s) {
+static __attribute__((noinline)) void wait_for_end(kl_signals *s) {
     pthread_sigmask(SIG_SETMASK, &s->others, &s->before);
     s->are_waiting = 1;
 }
 
-static void come(kl_signals *s) {
+static __attribute__((noinline)) void come(kl_signals *s) {
     const sigset_t before = s->before;
     s->are_waiting = 0;
     pthread_sigmask(SIG_SETMASK, &before, NULL);
 }
 
 /* What handlers asked for meanwhile. The call that does it is at work itself. */
-static void do_asked(thread_state *t) {
+static __attribute__((noinline)) void do_asked(thread_state *t) {
     int64_t values[MOST_EVENTS];
     uint32_t count;
     const uint64_t to_stop = t->signals.to_stop, to_reset = t->signals.to_reset;
@@ -82,7 +82,7 @@ int kl_core_begins(thread_state *t) {
 }
 
 /* The call that comes first does it: this one, or one of a handler. */
-static void do_now(thread_state *t) {
+static __attribute__((noinline)) void do_now(thread_state *t) {
     if (kl_core_begins(t)) kl_core_ends(t);
 }
 

@@ -10,8 +10,9 @@ thread_state *kl_first;
 /* In the round of destructors before the last one: tools that look at each access of memory end what they have of the thread in the last. */
 #define END_ROUND (PTHREAD_DESTRUCTOR_ITERATIONS - 1)
 
-/* The thread's state, with the generation that it is of: a state that has ended may be closed by another thread when the library ends. */
-static _Thread_local struct { thread_state *state; unsigned generation; int is_past; } own;
+/* The thread's state, with the generation that it is of: a state that has ended may be closed by another thread when the library ends. Each call looks it up, and
+ * calls nothing for that. */
+static _Thread_local struct { thread_state *state; unsigned generation; int is_past; } own __attribute__((tls_model("initial-exec")));
 static struct { pthread_key_t key; pthread_once_t once; int is_made; } at_end = { .once = PTHREAD_ONCE_INIT };
 static uint32_t next_number; /* under kl_lock */
 
