@@ -39,7 +39,7 @@ static __attribute__((noinline)) void look(kl_signals *s) {
     int found = 0;
     if (!s->looks) note_others(&s->others);
     for (int number = 1; number < SIGRTMAX && !found; number++) found = is_handled(number);
-    atomic_store_explicit(&has_handlers, found, memory_order_relaxed);
+    if (atomic_load_explicit(&has_handlers, memory_order_relaxed) != found) atomic_store_explicit(&has_handlers, found, memory_order_relaxed); /* others look at it */
     s->until_look = s->looks < FIRST_LOOKS ? CALLS_BETWEEN_FIRST : CALLS_BETWEEN;
     s->looks++;
 }
