@@ -65,6 +65,10 @@ class _Python(ast.NodeVisitor):
 
     # What is not looked at: annotations, docstrings, imports, and the parts of f-strings, whose places are not told.
 
+    def visit_Assign(self, node: ast.Assign) -> None:
+        if self.text(node.targets[0]) != "sys.dont_write_bytecode":  # which the copy's environment says anyway
+            self.generic_visit(node)
+
     def visit_AnnAssign(self, node: ast.AnnAssign) -> None:
         if node.value:
             self.visit(node.value)
@@ -176,7 +180,7 @@ SHELL = [
     (r"\[ -n ", lambda found: "[ -z ", "condition"), (r"\[ ! ", lambda found: "[ ", "condition"), (r"\bif ! ", lambda found: "if ", "condition"), (r"(?<=\]) (?:==|=) ", lambda found: " != ", "condition"),
     (r"\[ -[fx] ", lambda found: "[ -e ", "condition"), (r" -(?:gt|le) ", lambda found: " -ge ", "bound"), (r" -ge ", lambda found: " -gt ", "bound"),
     (r"(?<=[=+ ])[0-9]+\b(?! ?[<>])", lambda found: str(int(found[0]) + 1), "bound"), (r" 2>/dev/null", lambda found: "", "escape"), (r" </dev/null", lambda found: "", "escape"),
-    (r'"\$[@a-z_]\w*"', lambda found: found[0].strip('"'), "escape"), (r" -- ", lambda found: " ", "escape"), (r"\bset -eu\b", lambda found: "set -u", "status"),
+    (r'(?<!=)"\$[@a-z_]\w*"', lambda found: found[0].strip('"'), "escape"), (r" -- ", lambda found: " ", "escape"), (r"\bset -eu\b", lambda found: "set -u", "status"),
     (r"\bexec ", lambda found: "", "status"), (r"^\s*(?:rm|mv|cp|ln|chmod|mkdir|shift|strip|gzip) .*[^\\]$", lambda found: ":", "dropped command"),
 ]
 CODE = [
@@ -188,11 +192,16 @@ CODE = [
 ]
 
 
+def _without_comments(content: bytes) -> bytes:
+    """A source of C with signs in place of its comments, so that nothing in them is changed."""
+    return re.sub(rb"/\*.*?\*/", lambda found: re.sub(rb"[^\n]", b"\xff", found[0]), content, flags=re.DOTALL)
+
+
 def _by_patterns(name: str, content: bytes, patterns: list, comment: str) -> Iterator[Change]:
     start = 0
     for number, raw in enumerate(content.splitlines(keepends=True), 1):
-        line = raw.decode("utf-8", "replace")
-        if line.isascii() and not line.lstrip().startswith(comment) and not line.startswith("#"):
+        line = raw.decode("latin-1")  # a character for each byte
+        if not line.lstrip().startswith(comment) and not line.startswith("#"):
             code = re.split(r"\s" + comment, line.rstrip("\n"))[0]
             for pattern, new, kind in patterns:
                 for found in re.finditer(pattern, code):
@@ -206,5 +215,5 @@ def changes_of(root: Path, name: str) -> list[Change]:
     if name.endswith(".py") or content.startswith(b"#!/usr/bin/env python3"):
         return python_changes(name, content)
     if name.endswith((".c", ".h")):
-        return list(_by_patterns(name, content, CODE, "//"))
+        return list(_by_patterns(name, _without_comments(content), CODE, "//"))
     return list(_by_patterns(name, content, SHELL, "# "))

@@ -26,6 +26,7 @@ from parts.report.turns import Clock, Turn, clock_of, turns_of
 from parts.report.unit_counters import read_counters
 from refusals import NAME_FAULTS, RULES, SENTENCES, causes_of
 from scripts import CALLS, Call, calls_of
+from tests.markup import faults_of
 from tests.support import ROOT, InFolder, needs_command, needs_program, run_tool
 
 EXAMPLES = ROOT / "examples"
@@ -47,6 +48,9 @@ class Page(HTMLParser):
         self.text: dict[str, str] = {}  # by section
         self._open: list[str] = []
         self._line = 0
+        faults = faults_of(text)
+        if faults:
+            raise ValueError(f"faulty: {faults}")
         self.feed(text)
         self.close()
         if self._open:
