@@ -8,6 +8,8 @@ import re
 import signal
 import subprocess
 import sys
+import time
+from contextlib import suppress
 from dataclasses import dataclass
 from pathlib import Path
 from typing import Callable, Union
@@ -17,6 +19,7 @@ EXAMPLES = ROOT / "examples"
 PROGRAM = ROOT / "crates/papi/out/papi"
 SECONDS = 10
 PATIENCE = 30
+LOOKS = 20  # at whether processes have work
 Word = Union[str, bytes]
 
 # The tools, each with an example that reads all kinds of files that the tool reads.
@@ -77,6 +80,28 @@ def held_up(process: int) -> bool:
         states.add(fields[0])
         ticks += int(fields[11]) + int(fields[12])
     return bool(states & {"R", "D"}) and ticks < SECONDS * os.sysconf("SC_CLK_TCK")
+
+
+def processor_of(session: int) -> tuple[float, bool]:
+    """The seconds of a processor that the processes of a session took, and whether one of them has work to do now."""
+    ticks, has_work = 0, False
+    for path in Path("/proc").glob("[0-9]*/stat"):
+        with suppress(OSError):
+            state, _, _, its_session, *more = path.read_text(errors="replace").rpartition(")")[2].split()
+            if int(its_session) == session:
+                ticks += sum(int(each) for each in more[7:11])
+                has_work = has_work or state in "RD"
+    return ticks / os.sysconf("SC_CLK_TCK"), has_work
+
+
+def session_is_held_up(session: int, seconds: float) -> bool:
+    """Whether a session has work to do, and has not had so many seconds of a processor, as on a machine with much other work."""
+    for _ in range(LOOKS):
+        taken, has_work = processor_of(session)
+        if has_work:
+            return taken < seconds
+        time.sleep(0.05)
+    return False
 
 
 def communicate(child: subprocess.Popen) -> tuple[bytes | None, bytes | None]:

@@ -12,8 +12,10 @@ from tests.support import ROOT, InFolder, all_of, some
 sys.path.append(str(ROOT / "checks"))
 
 from cases import CALLS, PRESETS, read_tables
+from mutant_c import Programs
 from mutant_changes import changes_of
 from mutant_parts import PARTS, without_part
+from running import session_is_held_up
 from seen_lines import Seen, instrument, lines_of_statements, module_lines
 
 
@@ -108,6 +110,27 @@ class Mutants(InFolder):
         done = subprocess.run([sys.executable, "-B", str(ROOT / "checks/mutant_tests.py"), "result", "-", "test_some"], cwd=self.folder)
         rows = (self.folder / "result").read_text().splitlines()
         self.assertEqual((done.returncode, [row.split("\t")[0] for row in rows]), (1, ["passed", "failed"]))
+
+    def test_comments_are_not_changed_and_quotes_only_where_they_count(self) -> None:
+        self.write("some.c", "/* 1 == 2\n   3 */\nint x = 4; /* 5 \u00e4 */\n")
+        self.write("some.sh", 'a="$b"\n# exit 1\necho "$c" >&2\n')
+        self.write("some.py", "import sys\nsys.dont_write_bytecode = True\nx[0] = 7\n")
+        for name, wanted in (("some.c", [(3, "constant", "5")]), ("some.sh", [(3, "escape", "$c")]), ("some.py", [(3, "constant", "(0 + 1)"), (3, "constant", "(7 + 1)")])):
+            self.assertEqual([(change.line, change.kind, change.new) for change in changes_of(self.folder, name)], wanted)
+
+    def test_what_waits_for_a_processor_has_more_time(self) -> None:
+        for text, seconds, wanted in (("while True: pass", 1000.0, True), ("while True: pass", 0.0, False), ("import time; time.sleep(60)", 1000.0, False)):
+            with subprocess.Popen([sys.executable, "-c", f"print(flush=True)\n{text}"], stdout=subprocess.PIPE, start_new_session=True) as child:
+                assert child.stdout
+                child.stdout.readline()
+                self.assertEqual(session_is_held_up(child.pid, seconds), wanted, text)
+                child.kill()
+
+    def test_which_programs_run_a_line_of_c(self) -> None:
+        """A line without code is all programs' that run anything of the file, and one that leaves no word is asked about each line."""
+        programs = Programs(self.folder, ["one", "two", "silent"], Seen({"one": {("c/a.c", 3)}, "two": {("c/a.c", 4)}, "silent": {("", 0)}}), {("c/a.c", 3), ("c/a.c", 4), ("c/a.c", 5)})
+        self.assertEqual([programs.near(file, line) for file, line in (("c/a.c", 3), ("c/a.c", 5), ("c/a.c", 1), ("c/b.c", 1))],
+                         [["one", "silent"], ["silent"], ["one", "two", "silent"], ["silent"]])
 
     def test_the_changes_of_a_file(self) -> None:
         self.write("some.py", "def f(a, b):\n    if a < b:\n        g(a, b)\n    return 1\n")
