@@ -13,7 +13,7 @@ from typing import IO, Mapping
 
 from parts import valgrind
 from parts.codes import RECORDED
-from parts.command import Fault, Progress
+from parts.command import Fault, Progress, uninterrupted
 from parts.machine import Machine
 from parts.symbols import entry_of, read_functions
 
@@ -89,19 +89,22 @@ def record(wanted: Wanted, stream: str | None, label: str) -> Recorded:
     valgrind.check_temporary_folder()
     sys.stdout.flush()
     reader, writer = os.pipe()
+    process: subprocess.Popen[bytes] | None = None
     with os.fdopen(reader, encoding="utf-8", errors="replace") as report:
         try:
-            process = _start(wanted, [*words, f"--report={writer}"], path, stream, writer, environment)
-        finally:
-            os.close(writer)
-        try:
+            try:
+                with uninterrupted():
+                    process = _start(wanted, [*words, f"--report={writer}"], path, stream, writer, environment)
+            finally:
+                os.close(writer)
             recorded = _follow(report, label)
             if recorded.has_ended_early():
                 process.kill()
             recorded.status = process.wait()
         except BaseException:
-            process.kill()
-            process.wait()
+            if process is not None:
+                process.kill()
+                process.wait()
             raise
     if not recorded.totals and not recorded.has_ended_early() and recorded.status != -signal.SIGKILL:
         raise Fault(f"{wanted.program} can't be run under valgrind (status {recorded.status})")

@@ -263,6 +263,22 @@ class Signals(Ending):
             self.assertEqual(ended, (128 + number, b""))
             (self.folder / "cleaned").unlink()
 
+    def test_a_signal_while_a_program_is_started(self) -> None:
+        """It comes when the program runs already, and the tool does not know of it yet."""
+        begun = "real = subprocess.Popen\ndef started(*words, **more):\n child = real(*words, **more)\n os.kill(os.getpid(), signal.SIGTERM)\n return child\nsubprocess.Popen = started\n"
+        slow = self.script("slow", f"echo $$ >{self.folder}/pid\nexec sleep 60\n")
+        record = ("from parts import recording, valgrind\nfrom parts.machine import MACHINES\nrecording._words = lambda *any: []\n"
+                  "valgrind.environment = lambda *any: None\nvalgrind.tool = lambda: None\nvalgrind.command = lambda words, path, arguments: [path]\n"
+                  "def work():\n recording.record(recording.Wanted(sys.argv[1], [], MACHINES['skl']), 'stream', '')\n")
+        report = "from parts.report.asking import _answer_of\ndef work():\n _answer_of([sys.argv[1]], os.environ)\n"
+        for work in (record, report):
+            code = f"import os, signal, subprocess, sys\nfrom parts.command import end_with\n{work}{begun}end_with('it', work)\n"
+            (self.folder / "pid").unlink(missing_ok=True)
+            done = subprocess.run([sys.executable, "-B", "-c", code, slow], cwd=self.folder, env={**os.environ, "PYTHONPATH": f"{TOOLS}:{ROOT}/bin/hints"}, capture_output=True)
+            self.assertEqual((done.returncode, done.stderr), (128 + signal.SIGTERM, b""))
+            found = (self.folder / "pid").read_text().strip() if (self.folder / "pid").exists() else ""
+            self.assertFalse(found and Path("/proc", found).exists())
+
     def test_an_interrupt_of_an_import_is_quiet(self) -> None:
         code = "import os, signal\nimport parts.quiet\nos.kill(os.getpid(), signal.SIGINT)\nprint('done')\n"
         for trap, status, said in (("trap - INT", -signal.SIGINT, b""), ("trap '' INT", 0, b"done\n")):

@@ -47,12 +47,16 @@ class Answer:
 
 def _answer_of(command: Sequence[str], environment: Mapping[str, str], to: int | None = subprocess.PIPE) -> Answer:
     """What a command answers. If this process is told to end, the command is too. With `to` its standard error goes elsewhere."""
-    with subprocess.Popen(command, stdin=subprocess.DEVNULL, stdout=subprocess.PIPE, stderr=to, env=environment) as child:
-        try:
-            out, errors = child.communicate()
-        except BaseException:
-            child.terminate()
-            raise
+    child: subprocess.Popen[bytes] | None = None
+    try:
+        with uninterrupted():
+            child = subprocess.Popen(command, stdin=subprocess.DEVNULL, stdout=subprocess.PIPE, stderr=to, env=environment)
+        out, errors = child.communicate()
+    except BaseException:
+        if child is not None:
+            with child:
+                child.terminate()
+        raise
     return Answer(child.returncode, *(output.decode("utf-8", "surrogateescape").splitlines() for output in (out, errors or b"")))
 
 
