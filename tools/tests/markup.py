@@ -8,7 +8,7 @@ import re
 ELEMENTS = frozenset(
     "a b body br button code dd details div dl dt em figcaption figure footer h1 h2 h3 head header html i kbd li main meta nav ol p pre script section small span strong "
     "style sub summary sup table tbody td th thead title tr ul circle defs g line path polyline rect svg text tspan".split())
-HOLDS_ANY = "data-"  # an attribute of these names may be empty
+MAY_BE_EMPTY = ("data-", "open")  # how the names of attributes begin
 UNSTYLED = {"bar", "matrix", "ratios", "totals", "tree"}  # classes by which something is found
 VALUES = {"text-anchor": {"start", "middle", "end"}, "role": {"img", "group"}, "type": {"button"}, "aria-pressed": {"true", "false"}, "lang": {"en"}, "charset": {"utf-8"}}
 TAG = re.compile(r'<(/?)([A-Za-z][A-Za-z0-9]*)((?: [A-Za-z][\w:-]*="[^"<>]*")*)(/?)>')
@@ -40,7 +40,7 @@ def faults_of(text: str) -> list[str]:
     for _, name, attributes, _ in TAG.findall(whole):
         faults += [] if name in ELEMENTS else [f"there is no element {name}"]
         for attribute, value in re.findall(r' ([\w:-]+)="([^"]*)"', attributes):
-            if not value and not attribute.startswith(HOLDS_ANY):
+            if not value and not attribute.startswith(MAY_BE_EMPTY):
                 faults.append(f"{name} has an empty {attribute}")
             if value not in VALUES.get(attribute, {value}):
                 faults.append(f"{attribute} is {value}")

@@ -96,6 +96,19 @@ class Markings(unittest.TestCase):
         self.assertEqual(element("br"), "<br>")
 
 
+    def test_what_the_standards_forbid_is_found(self) -> None:
+        style = "<style>.a { } .b { }</style>"
+        picture = '<svg viewBox="0 0 10 10">{}</svg>'
+        self.assertEqual(faults_of(f'{style}<p class="a b" data-all="">x &lt; y</p>' + picture.format('<rect x="2" width="8"/>')), [])
+        for text, fault in (
+            ("<>x</>", "no element begins at <>x</>"), ("<4 p>x</4 p>", "no element begins at <4 p>x</4 p>"), ("<part>x</part>", "there is no element part"),
+            (f'{style}<p class="">x</p>', "p has an empty class"), (f'{style}<p class="a c">x</p>', "no style has the class c"), ('<p text-anchor="top"></p>', "text-anchor is top"),
+            ("<table><tr><th>a</th><th>b</th></tr><tr><td>1</td></tr></table>", "a row has 1 cells below 2 heads"), ("<svg></svg>", "a picture has no box"),
+            (picture.format('<rect x="2" width="9"></rect>'), "rect has x from 2 to 11 of 10"), (picture.format('<line y2="-1"></line>'), "line has y2 from -1 to -1 of 10"),
+        ):
+            self.assertEqual(faults_of(text), [fault])
+
+
 class Numbers(unittest.TestCase):
     def test_numbers(self) -> None:
         self.assertEqual([short(number) for number in (0, 999, 1000, 1234, 123_456, 2_500_000, -6)], ["0", "999", "1k", "1.2k", "123k", "2.5M", "-6"])
