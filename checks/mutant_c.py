@@ -4,6 +4,7 @@ from __future__ import annotations
 
 import json
 import re
+import resource
 import shutil
 import subprocess
 from dataclasses import dataclass, field
@@ -28,6 +29,7 @@ class Programs:
     seen: Seen = field(default_factory=Seen)
     lines: set[tuple[str, int]] = field(default_factory=set)  # that have code
     environment: dict[str, str] = field(default_factory=dict)
+    seconds: float = 0.0  # of a processor, that all take
 
     @classmethod
     def made(cls, top: Path, kept: Path, run: Run) -> Programs | None:
@@ -37,8 +39,10 @@ class Programs:
         kept.mkdir()
         programs = cls(kept, [*found[1].split(), *OTHERS])
         programs.environment = {"KEPT": str(kept), **_compiler(kept)}
+        before = sum(resource.getrusage(resource.RUSAGE_CHILDREN)[:2])
         if not programs.passes(run, programs.names):
             return None
+        programs.seconds = sum(resource.getrusage(resource.RUSAGE_CHILDREN)[:2]) - before
         with_gcov = kept / "seen"
         (with_gcov / "notes").mkdir(parents=True)
         flags = f"-O0 --coverage -fprofile-update=atomic -dumpdir {with_gcov}/notes/"
