@@ -30,6 +30,7 @@ class Programs:
     lines: set[tuple[str, int]] = field(default_factory=set)  # that have code
     environment: dict[str, str] = field(default_factory=dict)
     seconds: float = 0.0  # of a processor, that all take
+    with_sanitizers: bool = True
 
     @classmethod
     def made(cls, top: Path, kept: Path, run: Run) -> Programs | None:
@@ -43,6 +44,9 @@ class Programs:
         if not programs.passes(run, programs.names):
             return None
         programs.seconds = sum(resource.getrusage(resource.RUSAGE_CHILDREN)[:2]) - before
+        if not programs.passes(run, programs.names, "--sanitize"):
+            print("left out: c: the sanitizers, with which not all programs pass here", flush=True)
+            programs.with_sanitizers = False
         with_gcov = kept / "seen"
         (with_gcov / "notes").mkdir(parents=True)
         flags = f"-O0 --coverage -fprofile-update=atomic -dumpdir {with_gcov}/notes/"
@@ -79,7 +83,9 @@ class Programs:
         names = self.near(file, line)
         if not names:
             return True, False
-        passes = self.passes(run, names) and self.passes(run, names, "--sanitize")
+        passes = self.passes(run, names)
+        if passes and self.with_sanitizers:
+            passes = self.passes(run, names, "--sanitize")
         return bool(passes), passes is None
 
 
