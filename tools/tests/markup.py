@@ -30,6 +30,18 @@ def outside(picture: str) -> list[str]:
     return faults
 
 
+def faults_of_table(table: str) -> list[str]:
+    """Rows that have not as many cells as the head, and cells whose label is not what stands above them."""
+    heads = re.findall(r"<th(?: [^>]*)?>([^<]*)</th>", table)
+    faults = []
+    for row in re.findall(r"<tr.*?</tr>", table, re.DOTALL)[1:]:
+        cells = re.findall(r"<td((?: [^>]*)?)>", row)
+        faults += [] if len(cells) == len(heads) else [f"a row has {len(cells)} cells below {len(heads)} heads"]
+        labels = [re.findall(r' data-label="([^"]*)"', cell) for cell in cells]
+        faults += [f"below {head} stands {found[0]}" for head, found in zip(heads, labels) if found and found[0] != head]
+    return faults
+
+
 def faults_of(text: str) -> list[str]:
     """What is wrong with a page or a picture: signs that begin no element, names that are none, attributes without a value, and classes without a style."""
     whole = re.sub(r"^(?:<!DOCTYPE html>|<\?xml[^>]*\?>)\n", "", text)
@@ -46,9 +58,7 @@ def faults_of(text: str) -> list[str]:
                 faults.append(f"{attribute} is {value}")
             faults += [f"no style has the class {each}" for each in value.split() if attribute == "class" and each not in styled]
     for table in re.findall(r"<table.*?</table>", whole, re.DOTALL):
-        heads = table.count("<th ") + table.count("<th>")
-        cells = {sum(int(wide or 1) for wide in re.findall(r"<td(?:[^>]* colspan=\"([0-9]+)\")?[^>]*>", row)) for row in re.findall(r"<tr.*?</tr>", table, re.DOTALL)[1:]}
-        faults += [f"a row has {number} cells below {heads} heads" for number in cells if number != heads]
+        faults += faults_of_table(table)
     for picture in re.findall(r"<svg.*?</svg>", whole, re.DOTALL):
         faults += outside(picture)
     return sorted(set(faults))

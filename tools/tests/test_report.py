@@ -104,6 +104,7 @@ class Markings(unittest.TestCase):
             ("<>x</>", "no element begins at <>x</>"), ("<4 p>x</4 p>", "no element begins at <4 p>x</4 p>"), ("<part>x</part>", "there is no element part"),
             (f'{style}<p class="">x</p>', "p has an empty class"), (f'{style}<p class="a c">x</p>', "no style has the class c"), ('<p text-anchor="top"></p>', "text-anchor is top"),
             ("<table><tr><th>a</th><th>b</th></tr><tr><td>1</td></tr></table>", "a row has 1 cells below 2 heads"), ("<svg></svg>", "a picture has no box"),
+            ('<table><tr><th>a</th></tr><tr><td data-label="b">1</td></tr></table>', "below a stands b"),
             (picture.format('<rect x="2" width="9"></rect>'), "rect has x from 2 to 11 of 10"), (picture.format('<line y2="-1"></line>'), "line has y2 from -1 to -1 of 10"),
         ):
             self.assertEqual(faults_of(text), [fault])

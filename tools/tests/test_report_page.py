@@ -4,6 +4,7 @@ from __future__ import annotations
 
 import re
 import subprocess
+import unittest
 from pathlib import Path
 from typing import Sequence
 
@@ -14,18 +15,21 @@ from parts.report.curves import draw_curves
 from parts.report.exact import COUNTERS, exact_story, unlimited_unit
 from parts.report.making import Asked, make_report
 from parts.report.matrix import Picture, Row, draw_alone
-from parts.report.page import POLICY, make_page
+from parts.report.page import POLICY, Section, make_page
 from parts.report.profiles import Place, draw_profiles
 from parts.report.ratios import draw_ratios
+from parts.report.region_rows import draw_regions
+from parts.report.region_tree import Region
 from parts.report.replies import Note, read_replies
 from parts.report.sets import Group
 from parts.report.story import Reading, Setup, Span, Story
-from parts.report.summary import Total, Window, totals_of
+from parts.report.summary import Total, Window, draw_tiles, totals_of
 from parts.report.timeline import Timing, draw_timelines
 from parts.report.times import Time, times_of
 from parts.report.turns import Clock, Turn, clock_of
 from parts.report.unit_counters import Counter
 from scripts import calls_of
+from tests.markup import faults_of, outside
 from tests.support import ROOT, InFolder, needs_command, needs_program
 
 EXAMPLES = ROOT / "examples"
@@ -50,6 +54,51 @@ class Policy(InFolder):
         rules = dict(rule.split(" ", 1) for rule in found[1].replace("&#x27;", "'").split("; "))
         self.assertEqual(rules, {"default-src": "'none'", "style-src": "'unsafe-inline'", "script-src": "'unsafe-inline'", "img-src": "data:"})
         self.assertIn("default-src 'none'", POLICY)
+
+
+class Parts(unittest.TestCase):
+    """What stands at the top, beside the lines of the threads, and in the tree of regions."""
+
+    STORY = Story(setups={(0, 0): Setup(("X",)), (1, 2): Setup(("Y",))}, positions={0: 1234, 1: 0})
+
+    def test_the_top_of_the_page(self) -> None:
+        steps, _ = read_replies(calls_of(["0 create", "0 add 0 X", "1 register"]), ["1 0 create PAPI_OK 0", "2 0 add PAPI_ENOEVNT", "3 1 register PAPI_OK"])
+        sections = [Section("one", "First", "About it.", [making.Markup("<p>x</p>")]), Section("none", "Second", "", [])]
+        page = make_page("T", [("unit", "u"), ("stream 0", "s")], draw_tiles(steps, self.STORY, 5), self.STORY, sections)
+        header = page.partition("<header>")[2].partition("</header>")[0]
+        self.assertEqual(text_of([header]), "Kistalub report T unit u stream 0 s 3 calls 1 refused 2 threads 2 event sets 1,234 occurrences 5 thresholds passed")
+        self.assertEqual((header.count('"tile bad"'), draw_tiles(steps[:1], self.STORY, 0).count("bad")), (1, 0))
+        self.assertEqual((re.findall(r'<a href="#(\w+)">([^<]*)</a>', page), re.findall(r'<section id="(\w+)" class="card"', page)), ([("one", "First")], ["one"]))
+        self.assertEqual(re.findall(r"<button [^>]*>([^<]*)</button>", page), ["all", "thread 0", "set 0", "thread 1", "set 2"])
+        picked = re.findall(r'<button [^>]*data-(all|pick-set|pick-thread)="([^"]*)"', page)
+        self.assertEqual(picked, [("all", ""), ("pick-thread", "0"), ("pick-set", "0.0"), ("pick-thread", "1"), ("pick-set", "1.2")])
+        self.assertEqual(faults_of(page), [])
+
+    def test_each_thread_has_its_line(self) -> None:
+        made = draw_timelines(self.STORY, {0: "s"}, lambda span: None, {0: Time("cycles", lambda position: 2 * position), 1: Time()})
+        captions = [text_of(re.findall("<figcaption>(.*?)</figcaption>", figure)) for figure in made]
+        self.assertEqual(captions, ["thread 0 s, 1,234 occurrences consumed, in 2,468 cycles", "thread 1 no stream, 0 occurrences consumed"])
+        self.assertEqual([re.findall(r">(set [0-9]+|never started)<", figure) for figure in made], [["set 0", "never started"], ["set 2", "never started"]])
+        self.assertEqual([outside(picture) for picture in re.findall("<svg.*?</svg>", "".join(made))], [[], []])
+
+    def test_a_stretch_lies_between_its_occurrences(self) -> None:
+        """Half of a thread's line is half of the axis."""
+        span = Span(0, 0, Setup(("X",)), 25, 75, [], [50], is_open=False)
+        made = draw_timelines(Story(setups={(0, 0): span.setup}, spans=[span], positions={0: 100}), {}, lambda _: None, {0: Time()})[0]
+        first, last = (float(re.findall(rf'class="axis"[^>]* {place}="([0-9.]+)"', made)[0]) for place in ("x1", "x2"))
+        bar, wide = (float(re.findall(rf'class="bar fill0"[^>]* {place}="([0-9.]+)"', made)[0]) for place in ("x", "width"))
+        zeroed = float(re.findall(r'class="zeroed"[^>]* x1="([0-9.]+)"', made)[0])
+        self.assertEqual([round((place - first) / (last - first), 2) for place in (bar, zeroed, bar + wide)], [0.25, 0.5, 0.75])
+        self.assertIn("<title>set 0 ran from 25 to 75: X</title>", made)
+        self.assertIn("<title>zeroed at 50</title>", made)
+
+    def test_the_shares_of_regions(self) -> None:
+        inner = Region("inner", 0, "b", 2, (25, 1))
+        made = draw_regions([Region("outer", 0, "a", 1, (75, 9), [inner]), Region("other", 0, "c", 3, (25, 0))], ("X", "Y"))
+        self.assertEqual(text_of(made), "thread 0 region share X Y outer 1 instance 75 9 inner 2 instances 25 1 outside of these 50 8 other 3 instances 25 0")
+        self.assertEqual(re.findall(r'title="([0-9.]+ %)"><div [^>]*style="width:([0-9.]+%)"', made[0]), [("75.0 %", "75.0%"), ("25.0 %", "25.0%"), ("50.0 %", "50.0%"), ("25.0 %", "25.0%")])
+        self.assertEqual(re.findall(r"padding-left:([0-9]+)px", made[0]), ["0", "22", "22", "0"])
+        self.assertEqual(re.findall(r'data-label="(\w)"', made[0]), ["X", "Y"] * 4)
 
 
 class Limits(InFolder):
