@@ -21,9 +21,10 @@ from parts.report.ratios import draw_ratios
 from parts.report.region_rows import draw_regions
 from parts.report.region_tree import Region
 from parts.report.replies import Note, read_replies
+from parts.report.script_table import draw_script
 from parts.report.sets import Group
 from parts.report.story import Reading, Setup, Span, Story
-from parts.report.summary import Total, Window, draw_tiles, totals_of
+from parts.report.summary import Total, Window, draw_tiles, draw_totals, totals_of
 from parts.report.timeline import Timing, draw_timelines
 from parts.report.times import Time, times_of
 from parts.report.turns import Clock, Turn, clock_of
@@ -93,12 +94,35 @@ class Parts(unittest.TestCase):
         self.assertIn("<title>zeroed at 50</title>", made)
 
     def test_the_shares_of_regions(self) -> None:
-        inner = Region("inner", 0, "b", 2, (25, 1))
-        made = draw_regions([Region("outer", 0, "a", 1, (75, 9), [inner]), Region("other", 0, "c", 3, (25, 0))], ("X", "Y"))
-        self.assertEqual(text_of(made), "thread 0 region share X Y outer 1 instance 75 9 inner 2 instances 25 1 outside of these 50 8 other 3 instances 25 0")
+        inner = Region("inner", 0, "b", 2, (2500, 1))
+        made = draw_regions([Region("outer", 0, "a", 1, (7500, 9), [inner]), Region("other", 0, "c", 3, (2500, 0))], ("X", "Y"))
+        self.assertEqual(text_of(made), "thread 0 region share X Y outer 1 instance 7,500 9 inner 2 instances 2,500 1 outside of these 5,000 8 other 3 instances 2,500 0")
         self.assertEqual(re.findall(r'title="([0-9.]+ %)"><div [^>]*style="width:([0-9.]+%)"', made[0]), [("75.0 %", "75.0%"), ("25.0 %", "25.0%"), ("50.0 %", "50.0%"), ("25.0 %", "25.0%")])
         self.assertEqual(re.findall(r"padding-left:([0-9]+)px", made[0]), ["0", "22", "22", "0"])
         self.assertEqual(re.findall(r'data-label="(\w)"', made[0]), ["X", "Y"] * 4)
+
+    STEPS, _ = read_replies(
+        calls_of(["0 create", "0 add 0 X", "0 start 0", "0 read 0", "0 read 0", "0 add 0 Y"]),
+        ["1 0 create PAPI_OK 0", "2 0 add PAPI_OK", "3 0 start PAPI_OK", "4 0 read PAPI_OK 7", "5 0 read PAPI_OK 7 8", "6 0 add PAPI_ECNFLCT lab::Y / P0"])
+
+    def test_the_table_of_the_script(self) -> None:
+        """A value has its event beside it where there are as many events as values."""
+        made = draw_script(self.STEPS, {4: ("X",), 5: ("X",)}, {"add": "..."})
+        self.assertEqual(text_of(made), "line thread call reply 1 0 create PAPI_OK 0 2 0 add 0 X PAPI_OK 3 0 start 0 PAPI_OK 4 0 read 0 PAPI_OK 7 X 5 0 read 0 PAPI_OK 7 8 6 0 add 0 Y "
+                         "PAPI_ECNFLCT lab::Y / P0 Event exists, but cannot be counted due to hardware resource limits. rule \u00b7 picture")
+        self.assertEqual(re.findall('href="#([^"]*)"', made[0]), ["rule-add", "conflict-6"])
+        self.assertEqual(re.findall(r'<tr( class="refused")? data-thread="0" data-set="0.0" data-line="([1-6])" id="line-\2"', made[0]),
+                         [*(("", str(line)) for line in range(1, 6)), (' class="refused"', "6")])
+
+    def test_all_that_is_drawn_keeps_the_standards(self) -> None:
+        span = span_of("core::INSTRUCTIONS", "core::CYCLES", slice_=1, readings=[Reading(0, (0, 0)), Reading(4, (-3, 6)), Reading(9, (2000, 4000))])
+        story = Story(setups={(0, 0): span.setup}, spans=[span], positions={0: 9})
+        totals = [Total(span, "core::INSTRUCTIONS", WINDOW, 2000, 1900), Total(span, "core::CYCLES", WINDOW, 4000, None)]
+        timing = Timing([Group(("X",)), Group(("Y",))], [Turn(0, 0, 4), Turn(1, 4, 9)], 2)
+        drawn = [draw_totals(totals), draw_ratios(totals), draw_timelines(story, {}, lambda _: timing, {0: Time()}), draw_curves(span, Time()),
+                 draw_regions([Region("outer", 0, "a", 1, (5, 9), [Region("inner", 0, "b", 1, (2, 1))])], ("X", "Y")), draw_script(self.STEPS, {}, {"add": "..."})]
+        page = make_page("T", [("unit", "u")], draw_tiles(self.STEPS, story, 0), story, [Section(f"s{number}", "S", "", body) for number, body in enumerate(drawn)])
+        self.assertEqual((faults_of(page), page.count("<svg")), ([], 3))
 
 
 class Limits(InFolder):
