@@ -127,6 +127,8 @@ ANSWERS = (
            p="CPU,small\nPRESET,PAPI_L1_LDM,NOT_DERIVED,LOADS\nCPU,large\nPRESET,PAPI_TOT_INS,NOT_DERIVED,LOADS\n"),
     answer("a preset of a choice that has no row", f"papi_event_chooser{AVAIL.removeprefix('papi_avail')} PRESET PAPI_TOT_CYC", 1,
            "the preset file has no row of PAPI_TOT_CYC for the processor small"),
+    answer("more faults of a choice", "papi_event_chooser -U u NATIVE LOADS:u:u other::LOADS net:::LOADS LOADS:ALL=1", 1, '"u" stands twice in the name',
+           'the unit has no pmu "other" (there is: mine)', 'the unit has no component "net" (there is: core)', "and more names have faults"),
     answer("an unknown component of a name", "papi_native_avail -U u -e nets::mine::LOADS", 1, 'the unit has no pmu "nets" (there is: mine)'),
     answer("a unit that is no file", "papi_native_avail -U /dev/null -e LOADS", 1),
     answer("values after =", "papi_native_avail -U=u -e=LOAD", 1, 'the unit has no event "LOAD" (near: LOADS)'),
