@@ -65,6 +65,8 @@ FIELDS = (
             f'the name is "{"B" * 33}"; wanted: 1 to 32 letters, digits and _, and not PAPI_ before them'),
     bad_row("a token that is none", "p", "CPU,small\nEVENT,A,DERIVED_POSTFIX,N0|%|,LOADS\n", 2, "broken formula", "p:2: EVENT,A,DERIVED_POSTFIX,N0|%|,LOADS",
             '"%" is no token; wanted: N0, N1 .., a number, + - * or /, each ended by |'),
+    bad_row("each sign takes two values", "p", "CPU,small\nEVENT,A,DERIVED_POSTFIX,N0|2|+|3|-|4|*|5|/|%|,LOADS\n", 2, "broken formula",
+            "p:2: EVENT,A,DERIVED_POSTFIX,N0|2|+|3|-|4|*|5|/|%|,LOADS", '"%" is no token; wanted: N0, N1 .., a number, + - * or /, each ended by |'),
     bad_row("two values too many", "p", "CPU,small\nEVENT,A,DERIVED_POSTFIX,N0|2|3|4|+|,LOADS\n", 2, "broken formula", "p:2: EVENT,A,DERIVED_POSTFIX,N0|2|3|4|+|,LOADS",
             "3 values are left at its end, and one is wanted"),
     bad_row("a sign without values", "p", "CPU,small\nEVENT,A,DERIVED_POSTFIX,*|,LOADS\n", 2, "broken formula", "p:2: EVENT,A,DERIVED_POSTFIX,*|,LOADS",
@@ -115,6 +117,7 @@ LINES = (
 
 ANSWERS = (
     answer("a formula with a time", f"{AVAIL} -e PAPI_TOT_CYC", 0, "the formula of PAPI_TOT_CYC has a #, a time, and is not computed", p=CYCLES + "DERIVED_POSTFIX,N0|#|/|,LOADS\n"),
+    answer("a formula with its signs between", f"{AVAIL} -e PAPI_TOT_CYC", 0, p=CYCLES + "DERIVED_INFIX,N0+N1,LOADS,INSTRUCTIONS\n"),
     answer("a preset without a native event", f"{AVAIL} -e PAPI_TOT_CYC", 0, "PAPI_TOT_CYC has no native events", p=CYCLES + "NOT_DERIVED\n"),
     answer("two native events of one", f"{AVAIL} -e PAPI_TOT_CYC", 0, "PAPI_TOT_CYC is NOT_DERIVED and has 2 native events, where one is wanted", p=CYCLES + "NOT_DERIVED,LOADS,LOADS\n"),
     answer("native events of two components", f"{AVAIL} -e PAPI_TOT_CYC", 0, "PAPI_TOT_CYC has native events of several components: core, net",
