@@ -46,6 +46,7 @@ class Page(HTMLParser):
         self.elements: list[str] = []
         self.sections: list[str] = []
         self.text: dict[str, str] = {}  # by section
+        self.files = re.findall(r"<b>([^<]*)</b> <code>([^<]*)</code>", text.partition("</header>")[0])
         self._open: list[str] = []
         self._line = 0
         faults = faults_of(text)
@@ -325,6 +326,13 @@ class Pages(InFolder):
                 for word in reply.split()[3:]:
                     self.assertIn(word, told.split(), f"{name}: {reply}")
             self.assertEqual(set(page.rows), {call.line for call in script})
+
+    def test_the_files_are_named(self) -> None:
+        words = (EXAMPLES / "presets.words").read_text(encoding="utf-8").split()
+        given = [("unit", words[words.index("-U") + 1]), ("presets", words[words.index("-P") + 1]), ("processor", words[words.index("-C") + 1]), ("script", "presets.script")]
+        page = self.example("presets")
+        self.assertEqual((page.files[:4], [kind for kind, _ in page.files[4:]]), (given, [f"stream {number}" for number in range(len(page.files) - 4)]))
+        self.assertIn(("stream 0", "presets.stream"), page.files)
 
     def test_a_conflict(self) -> None:
         page = self.example("conflict")
