@@ -224,7 +224,7 @@ ANSWERS = (
     answer("a profile without an overflow call", "papi_profil -U u -M m s t", 0, "the script has no overflow call for set 0 of thread 0",
            s=SCRIPT.replace("0 overflow 0 INSTRUCTIONS 256\n", "")),
     answer("a profile of another set", "papi_profil -U u -M m --set 1 s t", 0, "the script has no overflow call for set 1 of thread 0 (it has some for set 0: --set)"),
-    answer("a profile of an index that is not there", "papi_profil -U u -M m --index 3 s t", 0, "set 0 of thread 0 has at most 1 event, numbered from 0, and --index is 3"),
+    answer("a profile of an index that is not there", "papi_profil -U u -M m --index 1 s t", 0, "set 0 of thread 0 has at most 1 event, numbered from 0, and --index is 1"),
     answer("a profile with a total", "papi_profil -U u -M m s t", 0),
 )
 
