@@ -534,8 +534,11 @@ class Runs(Recording):
         environment = {**os.environ, "TMPDIR": str(place)}
         words = [str(TOOLS / "record"), "-o", str(self.folder / "stream")]
         self.assertEqual(subprocess.run([*words, "true"], env=environment, capture_output=True).returncode, 0)
-        process = subprocess.Popen([*words, "sleep", "60"], env=environment, stderr=subprocess.PIPE)
-        time.sleep(3)
+        begun = self.folder / "begun"
+        process = subprocess.Popen([*words, "sh", "-c", f'echo >"{begun}"; read line'], env=environment, stdin=subprocess.PIPE, stderr=subprocess.PIPE)
+        end = time.monotonic() + 300
+        while not begun.exists() and time.monotonic() < end:
+            time.sleep(0.01)
         process.send_signal(signal.SIGTERM)
         process.communicate()
         self.assertEqual((process.returncode, list(place.iterdir())), (128 + signal.SIGTERM, []))
