@@ -166,6 +166,9 @@ class Scripts(InFolder):
 
 
 class Lists(InFolder):
+    def test_a_byte_that_is_no_text_is_shown_by_its_number(self) -> None:
+        self.assertEqual(plain(b"a\xff\x80".decode("utf-8", "surrogateescape")), r"a\xff\x80")
+
     def test_calls_and_symbols_are_those_of_the_document(self) -> None:
         """The tables of the hints beside those of docs/FORMATS.md."""
         text = FORMATS.read_text(encoding="utf-8")
