@@ -5,6 +5,7 @@ from __future__ import annotations
 import re
 import subprocess
 import sys
+import time
 import unittest
 
 from tests.support import ROOT, InFolder, all_of, some
@@ -15,7 +16,7 @@ from cases import CALLS, PRESETS, read_tables
 from mutant_c import Programs
 from mutant_changes import changes_of
 from mutant_parts import PARTS, without_part
-from running import session_is_held_up
+from running import processor_of, session_is_held_up
 from seen_lines import Seen, instrument, lines_of_statements, module_lines
 
 
@@ -119,10 +120,12 @@ class Mutants(InFolder):
             self.assertEqual([(change.line, change.kind, change.new) for change in changes_of(self.folder, name)], wanted)
 
     def test_what_waits_for_a_processor_has_more_time(self) -> None:
-        for text, seconds, wanted in (("while True: pass", 1000.0, True), ("while True: pass", 0.0, False), ("import time; time.sleep(60)", 1000.0, False)):
-            with subprocess.Popen([sys.executable, "-c", f"print(flush=True)\n{text}"], stdout=subprocess.PIPE, start_new_session=True) as child:
+        for text, seconds, wanted in (("while True: pass", 1000.0, True), ("while True: pass", 0.0, False), ("time.sleep(60)", 1000.0, False)):
+            with subprocess.Popen([sys.executable, "-c", f"import time\nprint(flush=True)\n{text}"], stdout=subprocess.PIPE, start_new_session=True) as child:
                 assert child.stdout
                 child.stdout.readline()
+                while text.startswith("time") and processor_of(child.pid)[1]:
+                    time.sleep(0.01)
                 self.assertEqual(session_is_held_up(child.pid, seconds), wanted, text)
                 child.kill()
 

@@ -19,7 +19,22 @@ from tests.support import ROOT, TOOLS, InFolder, has_library, needs_command
 
 PROFILE = "range loop 1\n0x4 1\noutside 1\ntotal 2\n"
 PATIENCE = 60  # seconds
+SOON = 10  # seconds
 SVG = "{http://www.w3.org/2000/svg}"
+
+
+def is_soon_over(process: str) -> bool:
+    """Whether a process is gone in a moment, or waits for its end to be read."""
+    end = time.monotonic() + SOON
+    while time.monotonic() < end:
+        try:
+            state = Path("/proc", process, "stat").read_text().rpartition(")")[2].split()[0]
+        except OSError:
+            return True
+        if state == "Z":
+            return True
+        time.sleep(0.01)
+    return False
 
 
 class Ending(InFolder):
@@ -228,7 +243,7 @@ class Signals(Ending):
             time.sleep(0.01)
         child.send_signal(number)
         _, told = child.communicate(timeout=PATIENCE)
-        self.assertFalse(Path("/proc", pid.read_text().strip()).exists())
+        self.assertTrue(is_soon_over(pid.read_text().strip()))
         return child.returncode, told
 
     def script(self, name: str, text: str) -> str:

@@ -424,7 +424,7 @@ class Runs(Recording):
         self.assertEqual((of(1, "first"), of(2, "second")), alone)
 
     def test_a_thread_that_waits_lets_others_run(self) -> None:
-        """Two threads take turns 2,000 times each. One that spins goes round a few times before the other one runs."""
+        """Two threads take turns 2,000 times each. One that spins lets the other one run before long: if it spun for a whole slice, each would take 400 million instructions."""
         program = self.compile("spins", """
             #include <pthread.h>
             #include <stdatomic.h>
@@ -443,7 +443,7 @@ class Runs(Recording):
         counts = {line.split()[-3]: int(line.split()[-1]) for line in told if " instructions " in line}
         self.assertEqual(sorted(counts), ["0", "1", "2"])
         for number in "12":
-            self.assertLess(counts[number], 2000 * 100, told)
+            self.assertLess(counts[number], 2000 * 10_000, told)
 
     def test_a_second_thread(self) -> None:
         program = self.compile("two", """
