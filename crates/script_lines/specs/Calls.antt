@@ -1,5 +1,5 @@
 -- The calls of a script, their names and words, in the order of the table of calls: this project's own format, docs/FORMATS.md.
-use Rattle.std.specs.Prelude.{◌≡◌, ℕ, List, [], ◌∷◌, Option, Some, None, Result, Err, if◌then◌else◌}
+use Rattle.std.specs.Prelude.{ℕ, List, [], ◌∷◌, Option, Some, None, Result, Err, if◌then◌else◌}
 use Rattle.std.specs.Str.{bytes_eq}
 use Rattle.papi_base.specs.CallNames.{word_of}
 use Rattle.call_type.specs.declared.call.Asked.{Asked}

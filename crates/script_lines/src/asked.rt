@@ -43,8 +43,23 @@ const NAMES: [CallName; 24] = [
     CallName::Name,
 ];
 
-// The name that a word is, if it is one.
-fn name_in(word: &[u8]) -> Option<CallName>
+// The calls that long scripts repeat.
+const FREQUENT: [CallName; 3] = [CallName::Read, CallName::Accum, CallName::Run];
+
+// The name that a word is, if it is one of those.
+fn frequent_name(word: &[u8]) -> Option<CallName>
+    ensures { IfSome result (λ name. word_of name ≡ word.now) }
+{
+    for name in &FREQUENT {
+        if call_word(*name).as_bytes() == word {
+            return Some(*name);
+        }
+    }
+    None
+}
+
+// The name that a word is, looked for among all.
+fn any_name(word: &[u8]) -> Option<CallName>
     ensures named { IfSome result (λ name. word_of name ≡ word.now) }
     ensures unknown { result ≡ None → Calls.form_of word.now Calls.call_rows ≡ None }
 {
@@ -54,6 +69,17 @@ fn name_in(word: &[u8]) -> Option<CallName>
         }
     }
     None
+}
+
+// The name that a word is, if it is one. Those that are repeated are looked for first.
+fn name_in(word: &[u8]) -> Option<CallName>
+    ensures named { IfSome result (λ name. word_of name ≡ word.now) }
+    ensures unknown { result ≡ None → Calls.form_of word.now Calls.call_rows ≡ None }
+{
+    match frequent_name(word) {
+        Some(name) => Some(name),
+        None => any_name(word),
+    }
 }
 
 // The call of a name that takes no event, with its arguments.

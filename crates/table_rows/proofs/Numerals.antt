@@ -1,17 +1,18 @@
 -- Names, printable texts and numerals as text, and their values.
-use Rattle.std.proofs.Common.{◌≡◌, ◌<◌, ◌≤◌, ◌^◌, ◌∷◌, ℕ, List, [], Option, Some, None, Bool, true, false, length, refl, ap, arith}
+use Rattle.std.proofs.Common.{◌≡◌, ◌+◌, ◌-◌, ◌*◌, ◌<◌, ◌≤◌, ◌^◌, ◌∷◌, ◌∙◌, ℕ, List, [], Some, None, Bool, true, false, length, get_or, take, refl, sym, ap, ap₂, arith}
 use Rattle.std.proofs.lemmas.Grind.{common_steps}
 use Rattle.std.proofs.lemmas.Bool.{leb-true, ltb-true, lt-ltb, le-ltb, ne_eqb, and_parts}
 use Rattle.std.proofs.lemmas.Str.{IsUtf8-from_ascii}
-use Rattle.std.proofs.lemmas.Int.Digits.{digits_value-lt}
+use Rattle.std.proofs.lemmas.Int.Digits.{digits_value-lt, digits_value_more}
+use Rattle.std.proofs.lemmas.Str.Parse.{digits_value-take-le}
 use Rattle.std.proofs.Math.Nat.{pow-le-pow_right}
 use Rattle.std.specs.Result.{result_ok}
-use Rattle.std.specs.Prelude.{◌==◌, zero, suc, not, nat_lt, if◌then◌else◌, IsUtf8, Result, Ok, Err}
+use Rattle.std.specs.Prelude.{◌==◌, zero, suc, nat_lt, if◌then◌else◌, IsUtf8, Result, Ok, Err}
 use Rattle.std.specs.List.{list_all}
 use Rattle.std.specs.Str.{IsAscii}
 use Rattle.std.specs.Char.{digit_value}
 use Rattle.std.specs.Str.Parse.{AllDigits, IsNumeral, ParsesUnsigned, digits_value, without_leading_plus}
-use Rattle.table_rows.specs.Texts.{is_decimal, is_digit, is_empty, is_hex_digit, is_name, is_name_byte, is_numeral, is_printable, is_printable_byte}
+use Rattle.table_rows.specs.Texts.{is_decimal, is_digit, is_hex_digit, is_name, is_name_byte, is_numeral, is_printable, is_printable_byte}
 
 -- ---- as text
 
@@ -27,9 +28,6 @@ name_byte-ascii b e = grind (arith, common_steps)
 printable_byte-ascii : (b : ℕ) → is_printable_byte b ≡ true → b < 128
 printable_byte-ascii b e = grind (arith, common_steps)
 
-digit-ascii : (b : ℕ) → is_digit b ≡ true → b < 128
-digit-ascii b e = grind (arith, common_steps)
-
 hex-ascii : (b : ℕ) → is_hex_digit b ≡ true → b < 128
 hex-ascii b e = grind (arith, common_steps)
 
@@ -40,38 +38,14 @@ name-utf8 t e = IsUtf8-from_ascii t (ascii-all is_name_byte t name_byte-ascii (a
 pub printable-utf8 : (t : List ℕ) → is_printable t ≡ true → IsUtf8 t
 printable-utf8 t e = IsUtf8-from_ascii t (ascii-all is_printable_byte t printable_byte-ascii e)
 
-pub numeral-utf8 : (t : List ℕ) → is_numeral t ≡ true → IsUtf8 t
-unfolding is_numeral
-numeral-utf8 t e = IsUtf8-from_ascii t (ascii-all is_digit t digit-ascii (and_parts _ _ e).0)
-
 pub hex-utf8 : (t : List ℕ) → list_all is_hex_digit t ≡ true → IsUtf8 t
 hex-utf8 t e = IsUtf8-from_ascii t (ascii-all is_hex_digit t hex-ascii e)
 
 -- ---- as digits
 
-digit-value : (b : ℕ) → is_digit b ≡ true → digit_value b < 10
-digit-value b e =
-    let low = leb-true 48 b (and_parts _ _ e).0 in
-    let high = leb-true b 57 (and_parts _ _ e).1 in
-    let l : nat_lt b 48 ≡ false = le-ltb b 48 low in
-    let h : nat_lt b 58 ≡ true = lt-ltb b 58 (omega arith) in
-    rw (l, h) (omega arith)
-
-digits-ten : (t : List ℕ) → list_all is_digit t ≡ true → AllDigits 10 t
-digits-ten [] e = tt
-digits-ten (b ∷ t) e = (digit-value b (and_parts _ _ e).0, digits-ten t (and_parts _ _ e).1)
-
 pub digits-sixteen : (t : List ℕ) → list_all is_hex_digit t ≡ true → AllDigits 16 t
 digits-sixteen [] e = tt
 digits-sixteen (b ∷ t) e = (ltb-true (digit_value b) 16 (and_parts _ _ e).0, digits-sixteen t (and_parts _ _ e).1)
-
-filled : (t : List ℕ) → not (is_empty t) ≡ true → 0 < length t
-filled [] e = cc e
-filled (b ∷ t) e = omega arith
-
-numeral-digits : (t : List ℕ) → is_numeral t ≡ true → IsNumeral 10 t
-unfolding is_numeral
-numeral-digits t e = let n = and_parts _ _ e in (filled t n.1, digits-ten t n.0)
 
 -- a number without leading zeros has digits alone
 pub decimal-numeral : (t : List ℕ) → is_decimal t ≡ true → is_numeral t ≡ true
@@ -89,10 +63,6 @@ plain p (b ∷ t) f e =
     let plus : (b == 43) ≡ false = ne_eqb b 43 (λ (q : b ≡ 43). cc (here, f, ap p q)) in
     rw plus refl
 
-numeral-plain : (t : List ℕ) → is_numeral t ≡ true → without_leading_plus t ≡ t
-unfolding is_numeral
-numeral-plain t e = plain is_digit t refl (and_parts _ _ e).0
-
 pub hex-plain : (t : List ℕ) → list_all is_hex_digit t ≡ true → without_leading_plus t ≡ t
 hex-plain t e = plain is_hex_digit t refl e
 
@@ -102,23 +72,33 @@ hex-small t e h =
     let le : 16 ^ length t ≤ 16 ^ 16 = pow-le-pow_right {n = 16} (omega arith) h in
     omega (arith, lt, le)
 
--- the value that a text of digits is read as
-abbrev value_if : ℕ → Bool → Option ℕ
-value_if n b = if b then Some n else None
+digit_value-digit : (b : ℕ) → is_digit b ≡ true → (48 ≤ b) × (digit_value b ≡ b - 48)
+digit_value-digit b e =
+    let low = leb-true 48 b (and_parts _ _ e).0 in
+    let high = leb-true b 57 (and_parts _ _ e).1 in
+    let l : nat_lt b 48 ≡ false = le-ltb b 48 low in
+    let h : nat_lt b 58 ≡ true = lt-ltb b 58 (omega arith) in
+    (low, rw (l, h) refl)
 
-pub numeral-parsed : {E : Type 0} (t : List ℕ) (r : Result ℕ E) → is_numeral t ≡ true → ParsesUnsigned 64 10 t r
-    → result_ok r ≡ (if nat_lt (digits_value 10 t) (2 ^ 64) then Some (digits_value 10 t) else None)
-numeral-parsed t (Ok n) d p =
-    let q = rw (numeral-plain t d) at p in
-    let small : nat_lt (digits_value 10 t) (2 ^ 64) ≡ true = lt-ltb _ _ q.0.1 in
-    rw small (ap Some q.1)
-numeral-parsed t (Err e) d p =
-    let q = rw (numeral-plain t d) at p in
-    go (nat_lt (digits_value 10 t) (2 ^ 64)) refl q
-  where
-    go : (b : Bool) → nat_lt (digits_value 10 t) (2 ^ 64) ≡ b → ¬ (IsNumeral 10 t × (digits_value 10 t < 2 ^ 64)) → None ≡ value_if (digits_value 10 t) b
-    go true e n = absurd (n (numeral-digits t d, ltb-true _ _ e))
-    go false e n = refl
+digit_at : (t : List ℕ) (i : ℕ) → list_all is_digit t ≡ true → i < length t → is_digit (get_or t i 0) ≡ true
+digit_at [] i e less = absurd (omega (arith, less))
+digit_at (b ∷ t) zero e less = (and_parts _ _ e).0
+digit_at (b ∷ t) (suc i) e less = digit_at t i (and_parts _ _ e).1 (omega (arith, less))
+
+-- one digit more
+pub next_digit : (t : List ℕ) (i value : ℕ) → is_numeral t ≡ true → i < length t → value ≡ digits_value 10 (take i t)
+    → (48 ≤ get_or t i 0) × (value * 10 + (get_or t i 0 - 48) ≡ digits_value 10 (take (i + 1) t))
+unfolding is_numeral
+next_digit t i value e less h =
+    let digit = digit_value-digit (get_or t i 0) (digit_at t i (and_parts _ _ e).0 less) in
+    (digit.0, sym (digits_value_more 10 t i less ∙ ap₂ (λ n d. n * 10 + d) (sym h) digit.1))
+
+-- the value so far is too large, and so is that of all digits
+pub too_large : (t : List ℕ) (k : ℕ) → 2 ^ 64 ≤ digits_value 10 (take k t) → None ≡ (if nat_lt (digits_value 10 t) (2 ^ 64) then Some (digits_value 10 t) else None)
+too_large t k h =
+    let le = digits_value-take-le 10 t k (omega arith) in
+    let large : nat_lt (digits_value 10 t) (2 ^ 64) ≡ false = le-ltb (digits_value 10 t) (2 ^ 64) (omega (arith, le, h)) in
+    rw large refl
 
 pub hex-parsed : {E : Type 0} (t : List ℕ) (r : Result ℕ E) → list_all is_hex_digit t ≡ true → 0 < length t → length t ≤ 16 → ParsesUnsigned 64 16 t r
     → result_ok r ≡ Some (digits_value 16 t)

@@ -53,7 +53,15 @@ pub fn numeral_value(digits: &[u8]) -> Option<u64>
     ensures { result ≡ (if nat_lt (digits_value 10 digits.now) (2 ^ 64)
         then Some (digits_value 10 digits.now) else None) }
 {
-    utf8_text(digits).parse::<u64>().ok()
+    let mut value: u64 = 0;
+    for &byte in digits {
+        let digit = u64::from(byte - b'0');
+        if value > (u64::MAX - digit) / 10 {
+            return None;
+        }
+        value = value * 10 + digit;
+    }
+    Some(value)
 }
 
 /// The decimal number without leading zeros that bytes are, if it is in the range, and else `None`.

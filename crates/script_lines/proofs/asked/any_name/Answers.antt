@@ -7,7 +7,7 @@ use Rattle.call_type.specs.declared.call.Asked.TheVariants as asked
 use Rattle.call_type.specs.declared.call.Call.TheVariants as call
 use Rattle.script_lines.proofs.CallLemmas.{form_of-skips}
 use Rattle.script_lines.specs.Calls.{CallRow, Nothing, call_rows, form_of, row}
-use Rattle.script_lines.proofs.asked.name_in.Goals as goal
+use Rattle.script_lines.proofs.asked.any_name.Goals as goal
 
 first : CallRow
 first = row name.Register (Nothing (asked.Call call.Register))
