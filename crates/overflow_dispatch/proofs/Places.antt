@@ -1,9 +1,9 @@
 -- The places of the bits that are set.
-use Rattle.std.proofs.Common.{◌≡◌, ℕ, zero, suc, ◌+◌, ◌-◌, ◌^◌, ◌<◌, ◌≤◌, Bool, true, false, List, [], ◌∷◌, ◌++◌, length, slice_get, Some, None, inl, inr, refl, ap, ap₂, sym, ◌∙◌, arith}
+use Rattle.std.proofs.Common.{◌≡◌, ℕ, zero, suc, ◌+◌, ◌-◌, ◌*◌, ◌%◌, ◌^◌, ◌<◌, ◌≤◌, Bool, true, false, List, [], ◌∷◌, ◌++◌, length, bit_and, inl, inr, refl, ap, ap₂, sym, ◌∙◌, arith}
 use Rattle.std.specs.Prelude.{All, ◌==◌}
-use Rattle.std.specs.Int.{bit_at}
+use Rattle.std.specs.Int.{bit_at, bit_not, trailing_zeros, w32}
 use Rattle.std.proofs.lemmas.Bool.{cases_eq, cases_lt, eq-eqb, ne_eqb}
-use Rattle.std.proofs.lemmas.Nat.Bits.{bit_at-lt, bit_at_above}
+use Rattle.std.proofs.lemmas.Nat.Bits.{bit_at-lt, bit_at_above, bit_at-trailing_zeros, bit_at_clear_same, bit_at_clear_other}
 use Rattle.overflow_dispatch.specs.Passing.{places_from, with_place}
 
 length-with_place : (b : Bool) (i m : ℕ) (places : List ℕ) → length places ≤ m → length (with_place b i places) ≤ suc m
@@ -67,39 +67,37 @@ none_above bits index small h k above = elim (cases_lt k 32) [
   | inr past ↦ bit_at_above bits 32 k small past
 ]
 
--- the loop that looks for a place, n places before this index
-pub record Looking (bits wanted place index : ℕ) : Type 0 where
-  pub before : place ≤ wanted
-  pub rest : slice_get (places_from bits index (32 - index)) (wanted - place) ≡ slice_get (places_from bits 0 32) wanted
+-- the places of the same bits
+pub same_places : (bits new i n : ℕ) → ((k : ℕ) → i ≤ k → k < i + n → bit_at new k ≡ bit_at bits k) → places_from new i n ≡ places_from bits i n
+same_places bits new i zero same = refl
+same_places bits new i (suc n) same = ap₂ (λ b places. with_place (b == 1) i places) (same i (omega arith) (omega arith)) (same_places bits new (i + 1) n (λ k low high. same k (omega arith) (omega arith)))
 
-one_less : (index : ℕ) → index < 32 → 32 - index ≡ suc (32 - (index + 1))
-one_less index h = omega arith
+-- the lowest place is taken out
+pub lowest_out : (bits new index i n : ℕ) → bit_at bits index ≡ 1 → ((k : ℕ) → k < index → bit_at bits k ≡ 0) → bit_at new index ≡ 0
+    → ((k : ℕ) → k < i + n → (k ≡ index → ⊥) → bit_at new k ≡ bit_at bits k) → i ≤ index → index < i + n → places_from bits i n ≡ index ∷ places_from new i n
+lowest_out bits new index i zero is below out same low high = absurd (omega arith)
+lowest_out bits new index i (suc n) is below out same low high = elim (cases_eq i index) [
+  | inl here ↦
+      set_place bits i (places_from bits (i + 1) n) (rw here is)
+      ∙ ap₂ (λ k places. k ∷ places) here (sym (clear_place new i (places_from new (i + 1) n) (λ e. let none = ap (λ k. bit_at new k) here in absurd (omega arith))
+      ∙ same_places bits new (i + 1) n (λ k past inside. same k (omega arith) (λ e. absurd (omega arith)))))
+  | inr apart ↦
+      let none = below i (omega arith) in
+      clear_place bits i (places_from bits (i + 1) n) (λ e. absurd (omega arith))
+      ∙ lowest_out bits new index (i + 1) n is below out (λ k inside apart. same k (omega arith) apart) (omega arith) (omega arith)
+      ∙ ap (λ places. index ∷ places) (sym (clear_place new i (places_from new (i + 1) n) (λ e. let kept = same i (omega arith) apart in absurd (omega arith))))
+]
 
-pub found : (bits wanted place index : ℕ) → index < 32 → bit_at bits index ≡ 1 → place ≡ wanted → Looking bits wanted place index → Some index ≡ slice_get (places_from bits 0 32) wanted
-found bits wanted place index inside is same h =
-    let left = places_from bits (index + 1) (32 - (index + 1)) in
-    let none : wanted - place ≡ 0 = omega arith in
-    sym (ap₂ (λ n k. slice_get (places_from bits index n) k) (one_less index inside) none ∙ ap (λ places. slice_get places 0) (set_place bits index left is)) ∙ h.rest
+-- the lowest bit is cleared
+pub first_out : (bits : ℕ) → 0 < bits → bits < 2 ^ 32
+    → places_from bits 0 32 ≡ trailing_zeros w32 bits ∷ places_from (bit_and bits (bit_not w32 (1 * 2 ^ trailing_zeros w32 bits % 2 ^ 32))) 0 32
+first_out bits some small =
+    let lowest = bit_at-trailing_zeros w32 bits some small in
+    let index = trailing_zeros w32 bits in
+    lowest_out bits (bit_and bits (bit_not w32 (1 * 2 ^ index % 2 ^ 32))) index 0 32 lowest.1 lowest.2 (bit_at_clear_same w32 bits index lowest.0)
+    (λ k inside apart. bit_at_clear_other w32 bits index lowest.0 k (omega arith) apart) (omega arith) (omega (arith, lowest.0))
 
-pub passed_one : (bits wanted place index : ℕ) → index < 32 → bit_at bits index ≡ 1 → (place ≡ wanted → ⊥) → Looking bits wanted place index → Looking bits wanted (place + 1) (index + 1)
-passed_one bits wanted place index inside is apart h =
-    let left = places_from bits (index + 1) (32 - (index + 1)) in
-    let b = h.before in
-    let less : wanted - place ≡ suc (wanted - (place + 1)) = omega arith in
-    record {
-      before = omega arith;
-      rest = sym (ap₂ (λ n k. slice_get (places_from bits index n) k) (one_less index inside) less
-          ∙ ap (λ places. slice_get places (suc (wanted - (place + 1)))) (set_place bits index left is)) ∙ h.rest;
-    }
-
-pub passed_none : (bits wanted place index : ℕ) → index < 32 → (bit_at bits index ≡ 1 → ⊥) → Looking bits wanted place index → Looking bits wanted place (index + 1)
-passed_none bits wanted place index inside isnt h =
-    let left = places_from bits (index + 1) (32 - (index + 1)) in
-    record {
-      before = h.before;
-      rest = sym (ap (λ n. slice_get (places_from bits index n) (wanted - place)) (one_less index inside)
-          ∙ ap (λ places. slice_get places (wanted - place)) (clear_place bits index left isnt)) ∙ h.rest;
-    }
-
-pub not_found : (bits wanted place index : ℕ) → 32 ≤ index → Looking bits wanted place index → None ≡ slice_get (places_from bits 0 32) wanted
-not_found bits wanted place index past h = let none : 32 - index ≡ 0 = omega arith in sym (ap (λ n. slice_get (places_from bits index n) (wanted - place)) none) ∙ h.rest
+-- and one place fewer is left
+pub count_out : (bits len : ℕ) → 0 < bits → bits < 2 ^ 32 → len ≡ length (places_from bits 0 32)
+    → (1 ≤ len) × (len - 1 ≡ length (places_from (bit_and bits (bit_not w32 (1 * 2 ^ trailing_zeros w32 bits % 2 ^ 32))) 0 32))
+count_out bits len some small many = let more = many ∙ ap length (first_out bits some small) in (omega (arith, more), omega (arith, more))

@@ -1,5 +1,5 @@
 //! The events that passed their thresholds at one occurrence.
-ghost use Rattle.std.specs.Prelude.{◌≡◌, ◌<◌, ◌≤◌, All, [], ◌∷◌, ◌++◌, length, slice_get};
+ghost use Rattle.std.specs.Prelude.{◌≡◌, ◌<◌, ◌≤◌, All, [], ◌∷◌, ◌++◌, drop, length, slice_get};
 ghost use Rattle.papi_base.specs.declared.limits.TheConstants.{MOST_SET_EVENTS};
 
 use papi_base::MOST_SET_EVENTS;
@@ -34,6 +34,17 @@ impl Passed {
         Passed { bits: 0, len: 0 }
     }
 
+    /// The same indexes once more.
+    #[inline(always)]
+    pub fn copied(&self) -> Passed
+        ensures { result ≡ self.now }
+    {
+        Passed {
+            bits: self.bits,
+            len: self.len,
+        }
+    }
+
     /// How many passed.
     #[inline(always)]
     pub fn len(&self) -> u32
@@ -43,21 +54,33 @@ impl Passed {
         self.len
     }
 
-    /// The index at this place from 0, if there is one.
+    /// Takes the first index out, if there is one.
     #[inline(always)]
+    pub fn pop_first(&mut self) -> Option<u32>
+        ensures first { result ≡ slice_get self.old 0 }
+        ensures rest { self.new ≡ drop 1 self.old }
+    {
+        if self.bits == 0 {
+            return None;
+        }
+        let index = self.bits.trailing_zeros();
+        self.bits &= !(1 << index);
+        self.len -= 1;
+        Some(index)
+    }
+
+    /// The index at this place from 0, if there is one.
     pub fn get(&self, i: u32) -> Option<u32>
         ensures { result ≡ slice_get self.now i }
     {
-        let mut place = 0;
-        for index in 0..MOST_SET_EVENTS as u32 {
-            if (self.bits >> index) & 1 == 1 {
-                if place == i {
-                    return Some(index);
-                }
-                place += 1;
-            }
+        if i >= self.len {
+            return None;
         }
-        None
+        let mut left = self.copied();
+        for _before in 0..i {
+            left.pop_first();
+        }
+        left.pop_first()
     }
 
     /// One index more, above all others.

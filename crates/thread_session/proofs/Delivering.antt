@@ -1,9 +1,10 @@
 -- Notes handed on one after another.
-use Rattle.std.proofs.Common.{◌≡◌, ℕ, zero, suc, ◌+◌, ◌<◌, List, [], ◌∷◌, ◌++◌, length, map, take, get_or, refl, ap, sym, ◌∙◌, arith, append_assoc, slice_get}
-use Rattle.std.specs.Prelude.{unwrap_or}
-use Rattle.std.proofs.lemmas.List.{length-map, take_more}
+use Rattle.std.proofs.Common.{◌≡◌, ℕ, zero, suc, ◌+◌, ◌<◌, List, [], ◌∷◌, ◌++◌, length, map, take, drop, get_or, refl, ap, sym, ◌∙◌, arith, append_assoc, slice_get}
+use Rattle.std.specs.Prelude.{⊤, Err, OnErr, Ok, Result, unwrap_or}
+use Rattle.std.proofs.lemmas.List.{length-map, take_more, drop-drop}
 use Rattle.std.proofs.lemmas.Option.{unwrap_or-slice_get}
 use Rattle.papi_base.specs.declared.occurrence.Occ.{Occ}
+use Rattle.overflow_dispatch.specs.Notes.{PartAdded}
 use Rattle.overflow_dispatch.specs.declared.handler.Note.{Note}
 use Rattle.session_model.specs.Thresholds.{note}
 
@@ -19,3 +20,22 @@ one_note before now then thread set index o passed i less is h e =
     ∙ append_assoc before (take i (map (note thread set o) passed)) (note thread set o index ∷ [])
     ∙ ap (λ (x : Note). before ++ (take i (map (note thread set o) passed) ++ x ∷ [])) (ap (note thread set o) (is ∙ unwrap_or-slice_get passed i 0) ∙ sym (get_or-noted thread set o passed i less))
     ∙ ap (λ (xs : List Note). before ++ xs) (sym (take_more (map (note thread set o) passed) i (note thread set o 0) (omega (arith, less, length-map passed (note thread set o)))))
+
+first_of_rest : (xs : List ℕ) (i : ℕ) → slice_get (drop i xs) 0 ≡ slice_get xs i
+first_of_rest [] zero = refl
+first_of_rest [] (suc i) = refl
+first_of_rest (x ∷ xs) zero = refl
+first_of_rest (x ∷ xs) (suc i) = first_of_rest xs i
+
+-- the first of those that are left, and then one fewer
+pub next_left : (xs left : List ℕ) (i : ℕ) → left ≡ drop i xs → slice_get left 0 ≡ slice_get xs i
+next_left xs left i e = ap (λ (l : List ℕ). slice_get l 0) e ∙ first_of_rest xs i
+
+pub fewer_left : (xs left : List ℕ) (i : ℕ) → left ≡ drop i xs → drop 1 left ≡ drop (i + 1) xs
+fewer_left xs left i e = ap (λ (l : List ℕ). drop 1 l) e ∙ drop-drop 1 i xs
+
+-- a note was refused after some were taken
+pub cut_off : {E : Type 0} (result : Result ⊤ E) (before now then : List Note) (thread set : ℕ) (o : Occ) (passed : List ℕ) (i : ℕ) → i < length passed
+    → now ≡ before ++ take i (map (note thread set o) passed) → then ≡ now → OnErr result (PartAdded before (map (note thread set o) passed) then)
+cut_off (Ok x) before now then thread set o passed i less h e = tt
+cut_off (Err x) before now then thread set o passed i less h e = (i, omega (arith, less, length-map passed (note thread set o)), e ∙ h)

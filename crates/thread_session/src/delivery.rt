@@ -22,8 +22,9 @@ pub(crate) fn deliver(
         (PartAdded (notes h.old) (map (note thread taken.now.set o.now) taken.now.passed)
         (notes h.new)) }
 {
-    for i in 0..taken.passed.len() {
-        let index = taken.passed.get(i).unwrap_or(0);
+    let mut left = taken.passed.copied();
+    for _told in 0..taken.passed.len() {
+        let index = left.pop_first().unwrap_or(0);
         h.on_overflow(Note {
             thread,
             set: taken.set,

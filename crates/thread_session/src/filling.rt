@@ -33,8 +33,9 @@ fn place(out: &mut [Note], at: usize, thread: u32, taken: &Taken, o: &Occ)
     ensures rest { drop (at + length taken.now.passed) out.new
         ≡ drop (at + length taken.now.passed) out.old }
 {
+    let mut left = taken.passed.copied();
     for i in 0..taken.passed.len() {
-        let index = taken.passed.get(i).unwrap_or(0);
+        let index = left.pop_first().unwrap_or(0);
         out[at + i as usize] = Note {
             thread,
             set: taken.set,

@@ -1,5 +1,5 @@
-use Rattle.overflow_dispatch.proofs.Places.{Looking}
+use Rattle.std.proofs.Common.{◌≡◌, drop}
 use Rattle.overflow_dispatch.proofs.passed.Passed.get.Given as goal
 
-abbrev pub invariant-loop-index : goal.invariant-loop-index
-invariant-loop-index l = Looking l.self-inside.bits l.i l.place l.index
+abbrev pub invariant-loop-before : goal.invariant-loop-before
+invariant-loop-before l = l.left ≡ drop l._before l.self
