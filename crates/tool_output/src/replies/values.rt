@@ -59,8 +59,6 @@ pub(crate) fn push_values(text: &mut String, values: &Values) -> Result<(), Allo
         let value = values.at(values.len() - 1 - written);
         at = write_value(value, &mut bytes, at);
     }
-    match str::from_utf8(&bytes[at..]) {
-        Ok(gathered) => push_text(text, gathered),
-        Err(_) => unreachable!(),
-    }
+    let gathered = unsafe { str::from_utf8_unchecked(&bytes[at..]) };
+    push_text(text, gathered)
 }

@@ -27,12 +27,12 @@ loop-written-preserved c =
           (sym w.written ∙ ap (λ z. 32 ∷ (signed_decimal z ++ drop c.loop-written.at c.loop-written.bytes)) (to_z-of_z w64 c.at-value.result (search rules)));
     }
 
-pub unreachable-requires : goal.unreachable-requires
-unreachable-requires c =
+pub from_utf8_unchecked-gathered-requires : goal.from_utf8_unchecked-gathered-requires
+from_utf8_unchecked-gathered-requires c =
     let old = c.loop-written.invariant in
     let tail = drop c.loop-written.at c.loop-written.bytes in
     let whole : take (LONGEST_LIST - c.loop-written.at) tail ≡ tail = take_all (LONGEST_LIST - c.loop-written.at) tail (omega (arith, length-drop c.loop-written.at c.loop-written.bytes, old.room)) in
-    c.in-Err.ensures.cases.0 (rw whole (IsUtf8-from_ascii tail old.ascii))
+    rw whole (IsUtf8-from_ascii tail old.ascii)
 
 pub returns : goal.returns
 returns c =
@@ -40,5 +40,5 @@ returns c =
     let tail = drop c.loop-written.at c.loop-written.bytes in
     let whole : take (LONGEST_LIST - c.loop-written.at) tail ≡ tail = take_all (LONGEST_LIST - c.loop-written.at) tail (omega (arith, length-drop c.loop-written.at c.loop-written.bytes, old.room)) in
     let all = all_before signed_decimal c.args.values.now c.loop-written.written tail (omega (arith, c.len-written-end.ensures.length, c.loop-written-test.false)) old.gathered in
-    let text : c.in-Ok.gathered.now ≡ spaced (map signed_decimal c.args.values.now) = c.in-Ok.ensures.cases.0 ∙ whole ∙ all in
+    let text : c.from_utf8_unchecked-gathered.result.now ≡ spaced (map signed_decimal c.args.values.now) = c.from_utf8_unchecked-gathered.ensures ∙ whole ∙ all in
     rw (← text) c.push_text.ensures
