@@ -18,7 +18,7 @@ GROUPS = {
     ),
     "counters and sets": ("counter_alloc", "counter_unit", "multiplex", "overflow_dispatch", "event_sets"),
     "meaning of calls": ("session_model", "call_laws"),
-    "threads and workers": ("stream_reader", "thread_slots", "thread_core", "thread_session", "thread_registry", "papi_calls"),
+    "threads and workers": ("stream_reader", "thread_slots", "thread_core", "thread_session", "reply_lists", "thread_registry", "papi_calls"),
     "scripts, texts, reports": (
         "script_lines", "script_runner", "tool_output", "soak_input", "profil_hist", "region_report", "tool_words",
     ),
@@ -72,12 +72,14 @@ def draw_crates(listed: dict[str, list[str]]) -> str:
 
 def _legend(cited: dict[str, list[str]], width: float) -> list[str]:
     """The groups that are there, in two lines at most."""
-    lines, left, top = [], float(MARGIN), MARGIN + 62
+    lines: list[str] = []
+    left: float = MARGIN
+    top = MARGIN + 62
     for place, (group, names) in enumerate(GROUPS.items()):
         if not set(names) & set(cited):
             continue
         if left + 40 + 6.4 * len(group) > width:
-            left, top = float(MARGIN), top + 20
+            left, top = MARGIN, top + 20
         lines.append(f'<rect class="box g{place}" x="{left:g}" y="{top}" width="12" height="12" rx="2"/>')
         lines.append(f'<text class="quiet" x="{left + 18:g}" y="{top + 10.5}">{xml_text(group)}</text>')
         left += 40 + 6.4 * len(group)

@@ -1,0 +1,3 @@
+mod PartLemmas
+mod BodyLemmas
+mod NumberLemmas

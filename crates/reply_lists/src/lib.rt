@@ -1,0 +1,12 @@
+//! Lists of replies that take little memory: a reply has a head of one size, and its values, events and counters stand in lists
+//! that all replies share.
+#![tactic(auto)]
+
+pub mod events;
+mod keeping;
+pub mod kept;
+mod reading;
+pub mod replies;
+
+pub use events::EventList;
+pub use replies::Replies;
