@@ -12,6 +12,7 @@ mod postfix_rules_tests;
 mod preset_csv_tests;
 mod profil_hist_tests;
 mod region_report_tests;
+mod reply_lists_tests;
 mod script_lines_tests;
 mod soak_input_tests;
 mod stream_reader_tests;

@@ -13,5 +13,5 @@ pub use resolving::resolve;
 pub use script_lines::{
     Script, ScriptCause, ScriptFault, ScriptLine, Written, cause_text, read_script,
 };
-pub use thread_registry::{Plan, PlanLine, Planned, ReplyLine, RunResult, run_plan};
+pub use thread_registry::{Plan, PlanLine, Planned, ReplyLine, ReplyLines, RunResult, run_plan};
 pub use writing::{write_notes, write_replies};

@@ -11,7 +11,7 @@ use component_table::Catalog;
 use overflow_dispatch::Note;
 use papi_base::{Sink, WriteFail, write_whole};
 use std::alloc::Global;
-use thread_registry::ReplyLine;
+use thread_registry::{ReplyLine, ReplyLines};
 use tool_output::{push_note_line, push_reply_line};
 
 // Appends the text of a reply.
@@ -38,7 +38,7 @@ fn gather_reply(text: &mut String, catalog: &Catalog, line: &ReplyLine) -> Resul
 #[tactic(auto, unfolding(crate::specs::Replies::replies_text))]
 pub fn write_replies<K: Sink>(
     alloc: Global,
-    lines: &[ReplyLine],
+    lines: &ReplyLines,
     catalog: &Catalog,
     out: &mut K,
 ) -> Result<(), WriteFail>
@@ -49,8 +49,8 @@ pub fn write_replies<K: Sink>(
     ensures counted { CountsFaults result (K.faults out.old) (K.faults out.new) }
 {
     let mut gathered = String::new(alloc);
-    for line in lines {
-        gather_reply(&mut gathered, catalog, line)?;
+    for i in 0..lines.len() {
+        gather_reply(&mut gathered, catalog, &lines.at(i))?;
         write_piece(&mut gathered, out)?;
     }
     write_whole(out, gathered.as_bytes())

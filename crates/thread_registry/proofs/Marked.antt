@@ -1,13 +1,17 @@
 -- The marks of a list of replies and of one reply more, and their lines.
 use Rattle.std.proofs.lemmas.Bool.Decides.{nat_tests}
 use Rattle.std.proofs.Common.{◌≡◌, ◌<◌, ◌≤◌, ◌+◌, ◌==◌, ℕ, zero, suc, Bool, true, false, List, [], ◌∷◌, ◌++◌, length, take, map, filter}
-use Rattle.std.proofs.Common.{set, get_or, if◌then◌else◌, Option, Some, None, refl, sym, ap, ◌∙◌, arith, replicate, tests}
-use Rattle.std.proofs.lemmas.List.{map-append}
+use Rattle.std.proofs.Common.{All, ap₂, slice_get, subst, unwrap_or, set, get_or, if◌then◌else◌, Option, Some, None, refl, sym, ap, ◌∙◌, arith, replicate, tests}
+use Rattle.std.proofs.lemmas.List.{get_or_default, map-append}
+use Rattle.std.proofs.lemmas.Option.{slice_get-get_or}
 use Rattle.std.proofs.lemmas.List.Elements.{filter-append}
 use Rattle.std.proofs.lemmas.List.FromFn.{get_or-map-range_with_len}
 use Rattle.std.proofs.Math.Seq.{take-suc}
 use Rattle.std.specs.List.{range_with_len}
-use Rattle.std.specs.Option.{option_or}
+use Rattle.std.specs.Option.{option_map, option_or}
+use Rattle.papi_base.specs.declared.call_name.CallName.TheVariants as name
+use Rattle.papi_base.specs.declared.code.Code.TheVariants as code
+use Rattle.session_model.specs.Replies.{plain}
 use Rattle.session_model.specs.declared.reply.Reply.{Reply}
 use Rattle.session_model.specs.declared.reply.Ended.{Ended}
 use Rattle.session_model.specs.World.{first_met, met_in, met_mark}
@@ -90,3 +94,26 @@ marked lines i l marks y e within is small or =
     ∙ set_at (mark_at done) (mark_at (done ++ l ∷ [])) 0 64 l.thread y small (λ t apart. at_other done l t (λ q. apart (omega arith)))
     (own ∙ ap (mark_at (done ++ l ∷ [])) (let q : l.thread ≡ 0 + l.thread = omega arith in q))
     ∙ ap (λ ls. map (mark_at ls) (range_with_len 0 64)) more
+
+-- a line, where a list has none
+some_reply : ReplyLine
+some_reply = record { line = 0; thread = 0; word = name.Run; reply = plain code.Ok }
+
+-- what is told of a line that is there
+told_of : {X : Type 0} (f : ReplyLine → X) (lines : List ReplyLine) (i : ℕ) (x : X) → i < length lines → option_map f (slice_get lines i) ≡ Some x → f (get_or lines i some_reply) ≡ x
+told_of f lines i x inside e = ap (λ o. unwrap_or o x) (sym (ap (option_map f) (slice_get-get_or lines i some_reply inside)) ∙ e)
+
+pub thread_small : (lines : List ReplyLine) (i t : ℕ) → i < length lines → option_map (λ l. l.thread) (slice_get lines i) ≡ Some t → All (λ l. l.thread < 64) lines → t < 64
+thread_small lines i t inside e all = subst (λ t. t < 64) (told_of (λ l. l.thread) lines i t inside e) (all i some_reply inside)
+
+-- the same, with the thread and the mark of the line alone
+pub marked_at : (lines : List ReplyLine) (i t : ℕ) (m : Option Ended) (marks : List (Option Ended)) (y : Option Ended) → marks ≡ marks_in (take i lines) → i < length lines
+    → option_map (λ l. l.thread) (slice_get lines i) ≡ Some t → option_map (λ l. met_in l.reply.body) (slice_get lines i) ≡ Some m
+    → All (λ l. l.thread < 64) lines → y ≡ option_or (get_or marks t None) m → set marks t y ≡ marks_in (take (i + 1) lines)
+marked_at lines i t m marks y e within at is all or =
+    let l = get_or lines i some_reply in
+    let same : l.thread ≡ t = told_of (λ l. l.thread) lines i t within at in
+    let own : met_in l.reply.body ≡ m = told_of (λ l. met_in l.reply.body) lines i m within is in
+    ap (λ t. set marks t y) (sym same)
+    ∙ marked lines i l marks y e within (sym (get_or_default lines i l some_reply within)) (subst (λ t. t < 64) (sym same) (thread_small lines i t within at all))
+    (or ∙ ap₂ (λ t m. option_or (get_or marks t None) m) (sym same) (sym own))

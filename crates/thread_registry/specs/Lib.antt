@@ -8,6 +8,7 @@ pub mod Runs
 pub mod Works
 pub mod Jobs
 pub mod Served
+pub mod Answers
 pub mod Merges
 pub mod Marks
 pub use Rattle.event_sets.specs.Agreement

@@ -26,7 +26,7 @@ seen notes j = record {
   session = session_of j.session;
   notes = notes;
   calls = j.calls.items;
-  replies = j.replies.items;
+  replies = j.replies;
   starved = j.starved;
 }
 

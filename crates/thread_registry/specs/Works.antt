@@ -22,7 +22,7 @@ core_for shape thread (c ∷ cs) = Some (opening_core thread shape)
 pub record IsWork (shape : Widths) (thread : ℕ) (w : Work) : Type 0 where
   pub core : w.core ≡ core_for shape thread w.calls.items
   pub shaped : 0 < length w.calls.items → IsShape shape
-  pub none : w.replies.items ≡ []
+  pub none : w.replies ≡ []
 
 -- so is the work of each thread
 pub record AreWorks (shape : Widths) (works : List Work) : Type 0 where

@@ -10,7 +10,8 @@ use crate::tasks::Task;
 use overflow_dispatch::Handler;
 use papi_base::Source;
 use postfix_rules::PresetBook;
-use session_model::{Call, Reply};
+use reply_lists::Replies;
+use session_model::Call;
 use std::alloc::AllocError;
 use std::marker::Send;
 use thread_session::Session;
@@ -22,7 +23,7 @@ pub struct Job<S: Source> {
     pub session: Opened<S>,
     pub handler: Box<dyn Handler + Send>,
     pub calls: Vec<Call>,
-    pub replies: Vec<Reply>,
+    pub replies: Replies,
     pub starved: bool,
 }
 
@@ -32,16 +33,15 @@ fn make_calls<S: Source>(
     book: &PresetBook,
     h: &mut dyn Handler,
     calls: &[Call],
-    replies: &mut Vec<Reply>,
+    replies: &mut Replies,
 ) -> Result<(), AllocError>
     requires { CanWork book.now session.old calls.now }
-    ensures { Worked book.now (seen_of session.old (notes h.old) calls.now replies.old.items false)
-        (seen_of session.new (notes h.new) calls.now replies.new.items (is_err result)) }
+    ensures { Worked book.now (seen_of session.old (notes h.old) calls.now replies.old false)
+        (seen_of session.new (notes h.new) calls.now replies.new (is_err result)) }
 {
     for call in calls {
         let reply = session.call(book, call, h)?;
-        replies.reserve(1)?;
-        replies.push_reserved(reply);
+        replies.push(&reply)?;
     }
     Ok(())
 }
@@ -52,11 +52,11 @@ fn make_boxed<S: Source>(
     book: &PresetBook,
     h: &mut Box<dyn Handler + Send>,
     calls: &[Call],
-    replies: &mut Vec<Reply>,
+    replies: &mut Replies,
 ) -> Result<(), AllocError>
     requires { CanWork book.now session.old calls.now }
-    ensures { Worked book.now (seen_of session.old (notes h.old) calls.now replies.old.items false)
-        (seen_of session.new (notes h.new) calls.now replies.new.items (is_err result)) }
+    ensures { Worked book.now (seen_of session.old (notes h.old) calls.now replies.old false)
+        (seen_of session.new (notes h.new) calls.now replies.new (is_err result)) }
 {
     make_calls(session, book, &mut **h, calls, replies)
 }

@@ -3,6 +3,7 @@
 mod deal;
 mod jobs;
 mod lending;
+pub mod lines;
 mod marks;
 mod merge;
 pub mod plan;
@@ -10,6 +11,7 @@ pub mod result;
 mod run;
 mod works;
 
+pub use lines::ReplyLines;
 pub use plan::{Plan, PlanLine, Planned};
 pub use result::{ReplyLine, RunResult};
 pub use run::run_plan;

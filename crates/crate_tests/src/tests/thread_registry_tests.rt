@@ -80,8 +80,12 @@ fn replies_come_in_the_order_of_the_plan_by_any_number_of_workers(
             workers,
         )?;
         assert_eq!(rt; run.lines.len(), 5, "{workers} workers");
-        for (line, want) in run.lines.iter().zip([0, 0, 1, 1, 2]) {
-            assert_eq!(rt; number_in(&line.reply), want, "{workers} workers");
+        for (i, want) in [0, 0, 1, 1, 2].into_iter().enumerate() {
+            assert_eq!(rt;
+                number_in(&run.lines.at(i).reply),
+                want,
+                "{workers} workers"
+            );
         }
     }
     Ok(())

@@ -12,7 +12,7 @@ use crate::{Job, work_all};
 use overflow_dispatch::Handler;
 use papi_base::Source;
 use postfix_rules::PresetBook;
-use session_model::Reply;
+use reply_lists::Replies;
 use std::marker::{Send, Sync};
 use std::thread::Threads;
 use stream_reader::StreamReader;
@@ -27,7 +27,7 @@ pub fn run_jobs<R: Threads + Sync, S: Source + Send>(
     handlers: &mut Vec<Box<dyn Handler + Send>>,
     readers: &mut Vec<StreamReader<S>>,
     mut jobs: Vec<Job<S>>,
-    replies: &mut Vec<Vec<Reply>>,
+    replies: &mut Vec<Replies>,
 ) -> bool
     requires shaped { (shape : Widths) × AreWorks shape works.items
         × All (λ x. 0 < length x.calls → CanWork book.now x.session x.calls) (befores_of shape
@@ -46,8 +46,7 @@ pub fn run_jobs<R: Threads + Sync, S: Source + Send>(
     ensures left { (shape : Widths) → AreWorks shape works.items
         → Left book.now result (befores_of shape
         readers.old.items (map (λ b. notes b) handlers.old.items) works.items)
-        (map (λ b. notes b) handlers.new.items) readers.new.items
-        (map (λ r. r.items) replies.new.items) }
+        (map (λ b. notes b) handlers.new.items) readers.new.items replies.new.items }
 {
     take_out(&mut works, handlers, readers, &mut jobs);
     work_all(rt, &mut jobs, book, workers);

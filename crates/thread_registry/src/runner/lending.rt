@@ -10,7 +10,7 @@ use crate::runner::works::Work;
 use crate::{Job, Opened};
 use overflow_dispatch::Handler;
 use papi_base::Source;
-use session_model::Reply;
+use reply_lists::Replies;
 use std::marker::Send;
 use stream_reader::StreamReader;
 use thread_session::Session;
@@ -79,7 +79,7 @@ pub fn put_back<S: Source>(
     jobs: &mut Vec<Job<S>>,
     handlers: &mut Vec<Box<dyn Handler + Send>>,
     readers: &mut Vec<StreamReader<S>>,
-    replies: &mut Vec<Vec<Reply>>,
+    replies: &mut Vec<Replies>,
 ) -> bool
     requires none { vec_len handlers.old ≡ 0 }
     requires no_readers { vec_len readers.old ≡ 0 }
@@ -94,8 +94,7 @@ pub fn put_back<S: Source>(
         ≡ reverse (map (λ j. notes j.handler) jobs.old.items) }
     ensures readers { readers.new.items
         ≡ reverse (map (λ j. (session_of j.session).reader) jobs.old.items) }
-    ensures replies { map (λ r. r.items) replies.new.items
-        ≡ reverse (map (λ j. j.replies.items) jobs.old.items) }
+    ensures replies { replies.new.items ≡ reverse (map (λ j. j.replies) jobs.old.items) }
     ensures whole { result ≡ false → All (λ j. j.starved ≡ false) jobs.old.items }
 {
     let mut refused = false;

@@ -1,16 +1,17 @@
 //! The replies of the threads, in the order of the plan.
-ghost use Rattle.std.specs.Prelude.{false, ◌≡◌, ◌<◌, ◌≤◌, ◌++◌, ◌+◌, ◌∷◌, ℕ, [], length, map, replicate, reverse, slice_index_or, slice_set, vec_len, vec_capacity};
-ghost use Rattle.call_type.specs.Calls.{name_of};
-ghost use Rattle.call_type.specs.declared.call.Asked.TheVariants as asked;
+ghost use Rattle.std.specs.Prelude.{false, ◌≡◌, ◌<◌, ◌≤◌, ℕ, List, [], drop, length, map, replicate, slice_index_or, slice_set, vec_len, vec_capacity};
 ghost use Rattle.session_model.specs.Worlds.{registered_after};
+ghost use Rattle.session_model.specs.declared.reply.Reply.{Reply};
+ghost use Rattle.thread_registry.specs.Answers.{AllAnswered, IsAnsweredBy, IsListOf, answer_of, line_of};
 ghost use Rattle.thread_registry.specs.Plans.{AreThreads, calls_in, planned_at};
-ghost use Rattle.thread_registry.specs.Merges.{reply_by, rest_by, flags_by, line_by, lines_by};
+ghost use Rattle.thread_registry.specs.Merges.{flags_by, lines_by, reply_by, rest_by};
 
 use crate::Registry;
+use crate::runner::lines::{Answer, AnsweredLine};
 use crate::runner::plan::{PlanLine, Planned};
-use crate::runner::result::ReplyLine;
-use papi_base::{Code, EventRef, THREADS};
-use session_model::{Body, Call, Reply};
+use papi_base::{Code, THREADS};
+use reply_lists::Replies;
+use session_model::Call;
 
 /// Keeps which threads are registered, after a call to which this code was replied.
 fn keep_registered(registry: &mut Registry, thread: u32, call: &Call, code: Code)
@@ -26,168 +27,65 @@ fn keep_registered(registry: &mut Registry, thread: u32, call: &Call, code: Code
     }
 }
 
-/// A reply that is the code alone.
-fn plain_reply(code: Code) -> Reply
-    ensures { result ≡ record { code = code; body = Body.Nothing } }
-{
-    Reply {
-        code,
-        body: Body::Nothing,
-    }
-}
-
-/// The code of an event, or the code with which its text was refused.
-fn code_reply(event: Result<u32, Code>) -> Reply
-    ensures { result ≡ reply_by [] [] (asked.CodeOf event) }
-{
-    match event {
-        Ok(number) => Reply {
-            code: Code::Ok,
-            body: Body::EventCode(number),
-        },
-        Err(code) => plain_reply(code),
-    }
-}
-
-/// The event of a code.
-fn name_reply(event: Option<EventRef>) -> Reply
-    ensures { result ≡ reply_by [] [] (asked.NameOf event) }
-{
-    match event {
-        Some(event) => Reply {
-            code: Code::Ok,
-            body: Body::EventName(event),
-        },
-        None => plain_reply(Code::Enoevnt),
-    }
-}
-
-/// The registered threads.
-fn threads_reply(registry: &Registry) -> Reply
-    ensures { result ≡ reply_by registry.now [] asked.Threads }
-{
-    Reply {
-        code: Code::Ok,
-        body: Body::Threads(registry.listed()),
-    }
-}
-
-/// A line with its reply. Replies are large, so few moves stand between a thread's list and the lines.
-#[inline(always)]
-fn reply_line(line: &PlanLine, reply: Reply) -> ReplyLine
-    ensures { result ≡ record {
-      line = line.now.number;
-      thread = line.now.thread;
-      word = name_of line.now.planned;
-      reply = reply;
-    } }
-{
-    ReplyLine {
-        line: line.number,
-        thread: line.thread,
-        word: line.planned.name(),
-        reply,
-    }
-}
-
-/// Answers a line, at the end of `lines`. The further replies of its thread stand in `replies`, the next one last.
-fn answer_line(
-    line: &PlanLine,
-    replies: &mut Vec<Reply>,
-    registry: &mut Registry,
-    lines: &mut Vec<ReplyLine>,
-)
+/// What a line is answered with. So many of the replies of its thread were taken.
+fn answer_next(line: &PlanLine, replies: &Replies, taken: usize, registry: &mut Registry) -> Answer
     requires thread { line.now.thread < THREADS }
-    requires replied { length (calls_in line.now.planned) ≤ vec_len replies.old }
-    requires room { vec_len lines.old < vec_capacity lines.old }
-    ensures line { lines.new.items ≡ lines.old.items
-        ++ line_by registry.old (reverse replies.old.items) line.now ∷ [] }
-    ensures len { vec_len lines.new ≡ vec_len lines.old + 1 }
-    ensures capacity { vec_capacity lines.new ≡ vec_capacity lines.old }
-    ensures rest { reverse replies.new.items
-        ≡ rest_by (reverse replies.old.items) line.now.planned }
-    ensures registered { registry.new
-        ≡ flags_by registry.old (reverse replies.old.items) line.now.thread line.now.planned }
+    requires replied { length (calls_in line.now.planned) ≤ length (drop taken replies.now) }
+    ensures answered { (lists : List (List Reply)) → IsListOf lists line.now.thread replies.now
+        → IsAnsweredBy lists line.now.thread result }
+    ensures reply { (lists : List (List Reply)) → IsListOf lists line.now.thread replies.now
+        → answer_of lists line.now.thread result
+        ≡ reply_by registry.old (drop taken replies.now) line.now.planned }
+    ensures registered { registry.new ≡ flags_by registry.old (drop taken replies.now)
+        line.now.thread line.now.planned }
 {
     match line.planned {
         Planned::Call(call) => {
-            let reply = replies.take_last();
-            let code = reply.code;
-            lines.push_reserved(reply_line(line, reply));
-            keep_registered(registry, line.thread, &call, code);
+            keep_registered(registry, line.thread, &call, replies.code_at(taken));
+            Answer::Made(taken)
         }
-        Planned::CodeOf(event) => lines.push_reserved(reply_line(line, code_reply(event))),
-        Planned::NameOf(event) => lines.push_reserved(reply_line(line, name_reply(event))),
-        Planned::Threads => lines.push_reserved(reply_line(line, threads_reply(registry))),
+        Planned::CodeOf(event) => Answer::CodeOf(event),
+        Planned::NameOf(event) => Answer::NameOf(event),
+        Planned::Threads => Answer::Threads(registry.listed()),
     }
 }
 
-/// Turns the replies of each thread round.
-fn turn_round(replies: &mut Vec<Vec<Reply>>)
-    ensures len { vec_len replies.new ≡ vec_len replies.old }
-    ensures turned { map (λ r. reverse r.items) replies.new.items
-        ≡ map (λ r. r.items) replies.old.items }
+/// How many of the replies of its thread are taken after a line, if so many were before.
+fn taken_after(planned: &Planned, replies: &Replies, taken: usize) -> usize
+    requires replied { length (calls_in planned.now) ≤ length (drop taken replies.now) }
+    ensures rest { drop result replies.now ≡ rest_by (drop taken replies.now) planned.now }
 {
-    for thread in 0..replies.len() {
-        replies[thread].reverse();
+    let _made = replies.len();
+    match planned {
+        Planned::Call(_) => taken + 1,
+        Planned::CodeOf(_) | Planned::NameOf(_) | Planned::Threads => taken,
     }
 }
 
-/// How many replies are taken from a list before it gives their memory back.
-const REPLIES_HELD: usize = 256;
-
-/// Gives back the memory of the replies that were taken from the list, from time to time.
-fn give_back_memory(replies: &mut Vec<Reply>)
-    ensures same { replies.new.items ≡ replies.old.items }
-{
-    if replies.len() % REPLIES_HELD == 0 {
-        replies.shrink_to_fit();
-    }
-}
-
-/// Answers the next line of this thread, and gives back memory.
-fn answer_next(
-    line: &PlanLine,
-    replies: &mut Vec<Reply>,
-    registry: &mut Registry,
-    lines: &mut Vec<ReplyLine>,
-)
-    requires thread { line.now.thread < THREADS }
-    requires replied { length (calls_in line.now.planned) ≤ vec_len replies.old }
-    requires room { vec_len lines.old < vec_capacity lines.old }
-    ensures line { lines.new.items ≡ lines.old.items
-        ++ line_by registry.old (reverse replies.old.items) line.now ∷ [] }
-    ensures len { vec_len lines.new ≡ vec_len lines.old + 1 }
-    ensures capacity { vec_capacity lines.new ≡ vec_capacity lines.old }
-    ensures rest { reverse replies.new.items
-        ≡ rest_by (reverse replies.old.items) line.now.planned }
-    ensures registered { registry.new
-        ≡ flags_by registry.old (reverse replies.old.items) line.now.thread line.now.planned }
-{
-    answer_line(line, replies, registry, lines);
-    give_back_memory(replies);
-}
-
-/// Answers the lines in their order. Each thread has as many replies as it has calls. Each reply is held once: the lists give
-/// back their memory as the lines are answered.
-pub fn merge(plan: &[PlanLine], replies: &mut Vec<Vec<Reply>>, lines: &mut Vec<ReplyLine>)
+/// Answers the lines in their order. Each thread has as many replies as it has calls.
+pub fn merge(plan: &[PlanLine], replies: &[Replies], lines: &mut Vec<AnsweredLine>)
     requires threads { AreThreads plan.now }
-    requires len { vec_len replies.old ≡ THREADS }
+    requires len { length replies.now ≡ THREADS }
     requires counts { (t : ℕ) → t < THREADS
-        → length (slice_index_or (map (λ r. r.items) replies.old.items) t [])
-        ≡ length (planned_at t plan.now) }
+        → length (slice_index_or replies.now t []) ≡ length (planned_at t plan.now) }
     requires none { vec_len lines.old ≡ 0 }
     requires room { length plan.now ≤ vec_capacity lines.old }
-    ensures lines { lines.new.items
-        ≡ lines_by (record {
-          flags = replicate THREADS false;
-          replies = map (λ r. r.items) replies.old.items;
-        }) plan.now }
+    ensures answered { AllAnswered replies.now lines.new.items }
+    ensures lines { map (line_of replies.now) lines.new.items
+        ≡ lines_by (record { flags = replicate THREADS false; replies = replies.now }) plan.now }
 {
-    turn_round(replies);
     let mut registry = Registry::new();
+    let mut taken = [0; THREADS as usize];
     for line in plan {
-        let list = &mut replies[line.thread as usize];
-        answer_next(line, list, &mut registry, lines);
+        let t = line.thread as usize;
+        let list = &replies[t];
+        let answer = answer_next(line, list, taken[t], &mut registry);
+        taken[t] = taken_after(&line.planned, list, taken[t]);
+        lines.push_reserved(AnsweredLine {
+            line: line.number,
+            thread: line.thread,
+            word: line.planned.name(),
+            answer,
+        });
     }
 }

@@ -1,4 +1,5 @@
 //! What a run gives.
+use crate::runner::lines::ReplyLines;
 use papi_base::{CallName, THREADS};
 use session_model::{Ended, Reply};
 
@@ -14,6 +15,6 @@ pub struct ReplyLine {
 /// The replies in the order of the script, and the mark that the runs of each thread met, if they met one.
 #[derive(Drop)]
 pub struct RunResult {
-    pub lines: Vec<ReplyLine>,
+    pub lines: ReplyLines,
     pub marks: [Option<Ended>; THREADS as usize],
 }

@@ -20,15 +20,16 @@ ghost use Rattle.thread_registry.specs.Works.{AreDealt, AreWorks};
 use crate::Job;
 use crate::runner::deal::deal;
 use crate::runner::jobs::run_jobs;
+use crate::runner::lines::{AnsweredLine, ReplyLines};
 use crate::runner::marks::marks_of;
 use crate::runner::merge::merge;
 use crate::runner::plan::{Plan, PlanLine};
-use crate::runner::result::{ReplyLine, RunResult};
+use crate::runner::result::RunResult;
 use crate::runner::works::{Work, open_works};
 use overflow_dispatch::Handler;
 use papi_base::{Shape, Source, THREADS};
 use postfix_rules::PresetBook;
-use session_model::Reply;
+use reply_lists::Replies;
 use std::alloc::{AllocError, Global};
 use std::marker::{Send, Sync};
 use std::thread::Threads;
@@ -38,8 +39,8 @@ use stream_reader::StreamReader;
 struct Prepared<S: Source> {
     works: Vec<Work>,
     jobs: Vec<Job<S>>,
-    replies: Vec<Vec<Reply>>,
-    lines: Vec<ReplyLine>,
+    replies: Vec<Replies>,
+    lines: Vec<AnsweredLine>,
 }
 
 /// Opens the work of each thread.
@@ -113,9 +114,9 @@ fn run_prepared<R: Threads + Sync, S: Source + Send>(
         → BookFits shape book.now → (replies : List (List Reply))
         × AreServed book.now shape (is_err result) plan.now readers.old.items readers.new.items
         (map (λ b. notes b) handlers.old.items) (map (λ b. notes b) handlers.new.items) replies
-        × IfOk result (λ run. run.lines.items
+        × IfOk result (λ run. run.lines
         ≡ lines_by (record { flags = replicate THREADS false; replies = replies }) plan.now) }
-    ensures marks { IfOk result (λ run. run.marks ≡ marks_in run.lines.items) }
+    ensures marks { IfOk result (λ run. run.marks ≡ marks_in run.lines) }
 {
     let Prepared {
         works,
@@ -135,9 +136,13 @@ fn run_prepared<R: Threads + Sync, S: Source + Send>(
     ) {
         return Err(AllocError);
     }
-    merge(plan, &mut replies, &mut lines);
-    let marks = marks_of(lines.as_slice());
-    Ok(RunResult { lines, marks })
+    merge(plan, replies.as_slice(), &mut lines);
+    let answered = ReplyLines::new(lines, replies);
+    let marks = marks_of(&answered);
+    Ok(RunResult {
+        lines: answered,
+        marks,
+    })
 }
 
 /// Runs the plan: the calls of each thread on a session of its own, over the thread's reader, told to the thread's
@@ -165,7 +170,7 @@ pub fn run_plan<R: Threads + Sync, S: Source + Send>(
     ensures readers_len { vec_len readers.new ≡ THREADS }
     ensures replies { (at : Setting) (script : List Line) (streams : List Coming)
         → IsPlannedAndTold at script streams book.now shape.now plan readers.old.items
-        → IfOk result (λ run. run.lines.items ≡ reply_lines plan (world_told at script streams)) }
+        → IfOk result (λ run. run.lines ≡ reply_lines plan (world_told at script streams)) }
     ensures notes { (at : Setting) (script : List Line) (streams : List Coming)
         → IsPlannedAndTold at script streams book.now shape.now plan readers.old.items
         → OnOk result (EachAdded (map (λ b. notes b) handlers.old.items)
@@ -179,7 +184,7 @@ pub fn run_plan<R: Threads + Sync, S: Source + Send>(
     // Told or not.
     ensures possible { (streams : List Coming) × CanEachCome readers.old.items streams
         × ((at : Setting) (script : List Line) → IsPlannedFrom at script book.now shape.now plan
-        → IfOk result (λ run. run.lines.items ≡ reply_lines plan (world_told at script streams))
+        → IfOk result (λ run. run.lines ≡ reply_lines plan (world_told at script streams))
         × OnOk result (EachAdded (map (λ b. notes b) handlers.old.items)
         (notes_by_thread (world_told at script streams)) (map (λ b. notes b) handlers.new.items))
         × EachBegun (map (λ b. notes b) handlers.old.items)
@@ -188,14 +193,14 @@ pub fn run_plan<R: Threads + Sync, S: Source + Send>(
         (map (λ b. notes b) handlers.new.items) }
     ensures idle { IdleStay plan readers.old.items readers.new.items
         (map (λ b. notes b) handlers.old.items) (map (λ b. notes b) handlers.new.items) }
-    ensures order { IfOk result (λ run. AreInOrder plan run.lines.items) }
-    ensures marks { IfOk result (λ run. run.marks ≡ marks_in run.lines.items) }
+    ensures order { IfOk result (λ run. AreInOrder plan run.lines) }
+    ensures marks { IfOk result (λ run. run.marks ≡ marks_in run.lines) }
     ensures readers { AllKept (map (λ r. fault_count r) readers.old.items)
         (map (λ r. fault_count r) readers.new.items) }
     ensures faulty { IfOk result (λ run. All (λ l. IsFaultReply l.reply
         → FaultsRose (slice_index_or (map (λ r. fault_count r) readers.old.items) l.thread None)
         (slice_index_or (map (λ r. fault_count r) readers.new.items) l.thread None))
-        run.lines.items) }
+        run.lines) }
 {
     let prepared = prepare(alloc, plan.lines(), shape)?;
     run_prepared(rt, plan.lines(), book, workers, prepared, readers, handlers)

@@ -1,10 +1,11 @@
 //! What the jobs of the threads take, before the handlers and the readers are lent to them.
-ghost use Rattle.std.specs.Prelude.{◌≡◌, ◌≤◌, IfOk, map, vec_len};
+ghost use Rattle.std.specs.Prelude.{◌≡◌, ◌<◌, ◌≤◌, IfOk, length, map, vec_len};
 ghost use Rattle.session_model.specs.Fitness.{IsShape};
-ghost use Rattle.thread_registry.specs.Works.{AreWorks, IsWork, calls_of};
+ghost use Rattle.thread_registry.specs.Works.{AreWorks, IsWork, calls_of, core_for};
 
 use papi_base::{Shape, THREADS};
-use session_model::{Call, Reply};
+use reply_lists::Replies;
+use session_model::Call;
 use std::alloc::{AllocError, Global};
 use thread_core::Core;
 
@@ -14,7 +15,7 @@ use thread_core::Core;
 pub struct Work {
     pub core: Option<Core>,
     pub calls: Vec<Call>,
-    pub replies: Vec<Reply>,
+    pub replies: Replies,
 }
 
 /// The same shape once more.
@@ -28,6 +29,23 @@ fn copy_shape(shape: &Shape) -> Shape
     copy
 }
 
+/// A new core for a thread that makes these calls. Without calls there is none.
+fn open_core(
+    alloc: Global,
+    thread: u32,
+    shape: &Shape,
+    calls: &[Call],
+) -> Result<Option<Core>, AllocError>
+    ensures core { IfOk result (λ core. core ≡ core_for shape.now thread calls.now) }
+    ensures shaped { IfOk result (λ _. 0 < length calls.now → IsShape shape.now) }
+{
+    if calls.is_empty() {
+        return Ok(None);
+    }
+    let core = Core::new(alloc, thread, copy_shape(shape))?;
+    Ok(Some(core))
+}
+
 /// The work of a thread that makes these calls. Without calls it takes no memory.
 fn open_work(
     alloc: Global,
@@ -38,11 +56,8 @@ fn open_work(
     ensures work { IfOk result (IsWork shape.now thread) }
     ensures calls { IfOk result (λ w. calls_of w ≡ calls.items) }
 {
-    let mut core = None;
-    if !calls.is_empty() {
-        core = Some(Core::new(alloc, thread, copy_shape(shape))?);
-    }
-    let replies = Vec::with_capacity(alloc, calls.len())?;
+    let core = open_core(alloc, thread, shape, calls.as_slice())?;
+    let replies = Replies::with_capacity(alloc, calls.len())?;
     Ok(Work {
         core,
         calls,

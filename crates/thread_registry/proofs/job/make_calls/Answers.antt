@@ -15,8 +15,8 @@ returns-in_err-reply g c =
     (record { shape = c.call.ensures.shape; ready = c.call.ensures.ready; faults = c.call.ensures.faults; grown = c.call.ensures.grown; part = λ a s. begun-of-part _ _ _ (c.in_err-reply.ensures.part a s); towards = λ left h. refused-to-of-cut _ _ _ _ left (c.in_err-reply.ensures.cut_to left h) })
     refl (search rules) refl
 
-pub returns-in_err-reserve : goal.returns-in_err-reserve
-returns-in_err-reserve g c =
+pub returns-in_err-push : goal.returns-in_err-push
+returns-in_err-push g c =
     going-cut _ _ _ _ _ (get_or c.args.calls.now c.loop-call.call-index Register) c.loop-call.invariant (search rules) (search rules)
     (refused-of _ _ _ _ c.in_ok-reply.reply
     (record { shape = c.call.ensures.shape; ready = c.call.ensures.ready; faults = c.call.ensures.faults; grown = c.call.ensures.grown; faulty = c.in_ok-reply.ensures.faulty; follows = λ a s. (c.in_ok-reply.ensures.stands a s, c.in_ok-reply.ensures.reply a s, c.in_ok-reply.ensures.notes a s); towards = c.in_ok-reply.ensures.towards }))

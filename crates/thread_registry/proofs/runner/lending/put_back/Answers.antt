@@ -20,7 +20,7 @@ loop-put-preserved g c =
       reply_room = c.push_reserved-in-loop-put-2.ensures.capacity ∙ inv.reply_room;
       handlers = put-more _ _ _ _ _ _ _ last (map-push _ _ _ _ c.push_reserved.ensures.items) inv.handlers;
       readers = put-more _ _ _ _ _ _ _ last (c.push_reserved-in-loop-put.ensures.items ∙ ap (λ r. c.loop-put.readers.items ++ r ∷ []) c.into_reader.ensures) inv.readers;
-      replies = put-more _ _ _ _ _ _ _ last (map-push _ _ _ _ c.push_reserved-in-loop-put-2.ensures.items) inv.replies;
+      replies = put-more _ _ _ _ _ _ _ last c.push_reserved-in-loop-put-2.ensures.items inv.replies;
       whole = λ e all. inv.whole (neither c.loop-put.refused _ e).0 (all-more (λ j. j.starved ≡ false) _ _ _ last all (neither c.loop-put.refused _ e).1);
     }
 

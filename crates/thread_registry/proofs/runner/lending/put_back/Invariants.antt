@@ -19,7 +19,7 @@ invariant-loop-put g l =
           l.readers.items ++ reverse (map (λ j. (session_of j.session).reader) l.jobs.items)
           ≡ reverse (map (λ j. (session_of j.session).reader) l.initial.jobs.items);
       replies :
-          map (λ r. r.items) l.replies.items ++ reverse (map (λ j. j.replies.items) l.jobs.items)
-          ≡ reverse (map (λ j. j.replies.items) l.initial.jobs.items);
+          l.replies.items ++ reverse (map (λ j. j.replies) l.jobs.items)
+          ≡ reverse (map (λ j. j.replies) l.initial.jobs.items);
       whole : l.refused ≡ false → All (λ j. j.starved ≡ false) l.jobs.items → All (λ j. j.starved ≡ false) l.initial.jobs.items;
     }

@@ -2,5 +2,5 @@ use Rattle.std.proofs.Common.{◌≡◌, take}
 use Rattle.thread_registry.specs.Marks.{marks_in}
 use Rattle.thread_registry.proofs.runner.marks.marks_of.Given as goal
 
-abbrev pub invariant-loop-line : goal.invariant-loop-line
-invariant-loop-line l = l.marks ≡ marks_in (take l.line-index l.lines)
+abbrev pub invariant-loop-i : goal.invariant-loop-i
+invariant-loop-i l = l.marks ≡ marks_in (take l.i l.lines)

@@ -71,7 +71,7 @@ pub returns-clause-faulty : goal.returns-clause-faulty
 returns-clause-faulty g c =
     let served = c.run_prepared.ensures.served c.args.shape.now c.in_ok-prepared.ensures.works c.requires.fits in
     if_ok c.run_prepared.result _ _ served.2
-    (λ run whole q. faulty-all c.args.book.now c.args.shape.now c.args.plan c.args.readers.now.items _ _ _ _ _ (omega (arith, c.requires.readers, c.args.readers.now.ok.0)) (served-as _ _ _ c.args.plan _ _ _ _ _ _ c.lines-2.ensures.lines served.1) run.lines.items (q ∙ ap (lines_by _) c.lines-2.ensures.lines))
+    (λ run whole q. faulty-all c.args.book.now c.args.shape.now c.args.plan c.args.readers.now.items _ _ _ _ _ (omega (arith, c.requires.readers, c.args.readers.now.ok.0)) (served-as _ _ _ c.args.plan _ _ _ _ _ _ c.lines-2.ensures.lines served.1) run.lines (q ∙ ap (lines_by _) c.lines-2.ensures.lines))
 
 pub returns-in_err-prepared-clause-begun : goal.returns-in_err-prepared-clause-begun
 returns-in_err-prepared-clause-begun g c = λ at script streams tells. begun-none _ _

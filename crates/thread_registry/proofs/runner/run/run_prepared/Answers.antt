@@ -1,4 +1,4 @@
-use Rattle.std.proofs.Common.{arith, refl, map}
+use Rattle.std.proofs.Common.{arith, refl, map, ◌∙◌}
 use Rattle.std.proofs.lemmas.Bool.Decides.{nat_tests}
 use Rattle.std.proofs.lemmas.List.{length-map}
 use Rattle.thread_registry.proofs.Scripts.{lines-threads}
@@ -24,7 +24,8 @@ merge-requires-clause-counts g c =
     let served = are-served c.args.book.now w.0 _ c.args.plan.now c.args.readers.now.items c.run_jobs.new.readers.items (map (λ b. (goal.Handler-dyn g (b.vtable, b.value)).notes b.value) c.args.handlers.now.items) _ _ c.args.prepared.works.items
     (omega (arith, c.requires.readers, c.args.readers.now.ok.0)) (omega (arith, length-map c.args.handlers.now.items (λ b. (goal.Handler-dyn g (b.vtable, b.value)).notes b.value), c.requires.handlers, c.args.handlers.now.ok.0)) (omega (arith, c.requires.len, c.args.prepared.works.ok.0))
     c.requires.dealt w.1 (c.if-run_jobs.ensures.left w.0 w.1) in
-    counts-all c.args.book.now w.0 c.args.plan.now c.args.readers.now.items _ _ _ _ _ (omega (arith, c.requires.readers, c.args.readers.now.ok.0)) served refl
+    rw c.as_slice.ensures.value
+    (counts-all c.args.book.now w.0 c.args.plan.now c.args.readers.now.items _ _ _ _ _ (omega (arith, c.requires.readers, c.args.readers.now.ok.0)) served refl)
 
 pub marks_of-marks-requires : goal.marks_of-marks-requires
 marks_of-marks-requires g c = grind (arith, nat_tests, lines-threads)
@@ -34,4 +35,4 @@ returns-clause-served g c = λ shape all fits.
     let served = are-served c.args.book.now shape _ c.args.plan.now c.args.readers.now.items c.run_jobs.new.readers.items (map (λ b. (goal.Handler-dyn g (b.vtable, b.value)).notes b.value) c.args.handlers.now.items) _ _ c.args.prepared.works.items
     (omega (arith, c.requires.readers, c.args.readers.now.ok.0)) (omega (arith, length-map c.args.handlers.now.items (λ b. (goal.Handler-dyn g (b.vtable, b.value)).notes b.value), c.requires.handlers, c.args.handlers.now.ok.0)) (omega (arith, c.requires.len, c.args.prepared.works.ok.0))
     c.requires.dealt all (c.if-run_jobs.ensures.left shape all) in
-    (_, served, c.merge.ensures.lines)
+    (_, served, c.new-answered.ensures.lines ∙ (rw c.as_slice.ensures.value at c.merge.ensures.lines))
