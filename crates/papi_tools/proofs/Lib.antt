@@ -2,6 +2,7 @@ pub mod CarriedLemmas
 pub mod CauseLemmas
 pub mod FaultLemmas
 pub mod FindingLemmas
+pub mod HoldingLemmas
 pub mod KeptLemmas
 mod LookingLemmas
 pub mod OpeningLemmas

@@ -5,7 +5,7 @@ use Rattle.papi_base.specs.Outside.{Held, Rose}
 use Rattle.overflow_dispatch.specs.declared.handler.Note.{Note}
 use Rattle.overflow_dispatch.specs.Notes.{EachGrown}
 use Rattle.tool_words.specs.Form.{form}
-use Rattle.papi_tools.specs.Looking.{FilesSeen, SaysNo, Shows, SinkSeen, files_seen, sink_seen}
+use Rattle.papi_tools.specs.Looking.{FilesSeen, SaysNo, Shows, SinkSeen, StaysHeld, files_seen, sink_seen}
 use Rattle.papi_tools.specs.Openings.{ForSome, Openings}
 use Rattle.papi_tools.specs.Saying.{HasSinkCause, Says, TellsNotes}
 use Rattle.papi_tools.specs.Verdict.{verdict, verdict_for}
@@ -23,6 +23,8 @@ pub record CarriesOutOver (openings : Openings) (words : List (List ℕ)) (s : S
   pub sinks : HasSinkCause s out.faults out'.faults err.faults err'.faults
   -- every source that was opened is closed
   pub returned : files'.lent ≡ files.lent
+  -- each file holds what it held
+  pub held : StaysHeld files.held files'.held
 
 -- Such a call told the handlers the notes of the verdict, and each list of notes has grown at its end.
 pub record TellsOver (openings : Openings) (words : List (List ℕ)) (s : Status) (before after : List (List Note)) : Type 0 where

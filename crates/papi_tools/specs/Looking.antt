@@ -1,6 +1,7 @@
 -- What is seen of files and of sinks, and what looking at files, and the outcome of a call, show of the counts.
-use Rattle.std.specs.Prelude.{ℕ, List, Option, ◌-◌, ◌^◌, [], Some, ◌≡◌, ◌≤◌, ◌+◌, Result, Ok, Err, IsSome}
-use Rattle.papi_base.specs.Outside.{Held, Rose}
+use Rattle.std.specs.Prelude.{ℕ, zero, suc, List, Option, ◌-◌, ◌^◌, [], Some, ◌≡◌, ◌≤◌, ◌+◌, Result, Ok, Err, IsSome}
+use Rattle.std.specs.Option.{option_map}
+use Rattle.papi_base.specs.Outside.{Held, Rose, renumbered}
 use Rattle.papi_tools.specs.declared.refusal.Refusal.{Refusal}
 use Rattle.papi_tools.specs.declared.refusal.Refusal.TheVariants.{BadWords, CannotRead, NoSuchFile}
 use Rattle.papi_tools.specs.declared.refusal.Stop.{Stop}
@@ -33,6 +34,22 @@ sink_seen taken faults sink = record { taken = taken sink; faults = faults sink 
 -- files that hold nothing and tell it
 abbrev pub no_files : FilesSeen
 no_files = record { held = Some (record { tapes = []; refused = [] }); misses = 2 ^ 64 - 1; faults = 0; lent = 0 }
+
+-- ---- what looking does to what the files hold
+
+-- the numbers of the openings that fail, as they are after n openings
+abbrev pub refused_after : ℕ → List ℕ → List ℕ
+refused_after zero refused = refused
+refused_after (suc n) refused = refused_after n (renumbered refused)
+
+-- what is held after n openings: the same tapes by the same names, and of the openings that fail those that are still to come
+abbrev pub held_after : ℕ → Held → Held
+held_after n held = record { tapes = held.tapes; refused = refused_after n held.refused }
+
+-- The files hold what they held before, if they tell it, and some openings are past.
+pub record StaysHeld (before after : Option Held) : Type 0 where
+  pub openings : ℕ
+  pub held : after ≡ option_map (held_after openings) before
 
 -- ---- what looking does to the counts
 

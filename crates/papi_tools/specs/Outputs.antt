@@ -7,4 +7,4 @@ use Rattle.papi_tools.specs.declared.output.Content.TheVariants.{Text, Replies}
 -- a text, or the replies and the notes after them as text
 abbrev pub content_bytes : Content → List ℕ
 content_bytes (Text text) = text
-content_bytes (Replies lines catalog shown) = replies_text catalog lines.items ++ notes_text shown.items
+content_bytes (Replies lines catalog shown) = replies_text catalog lines ++ notes_text shown.items

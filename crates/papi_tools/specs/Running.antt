@@ -64,6 +64,6 @@ note_counts lists = map (λ notes. length notes) lists
 
 -- A run over this has these replies and tells each handler the notes of its thread; if memory ran out, a prefix of them.
 pub record IsRun {E : Type 0} (result : Result RanScript E) (given : GivenRun) (before after : List (List Note)) : Type 0 where
-  pub replies : IfOk result (λ ran. ran.lines.items ≡ ran_replies given)
+  pub replies : IfOk result (λ ran. ran.lines ≡ ran_replies given)
   pub notes : OnOk result (EachAdded before (ran_notes given) after)
   pub begun : EachBegun before (ran_notes given) after

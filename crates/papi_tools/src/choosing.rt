@@ -1,7 +1,7 @@
 //! `papi_event_chooser`: lists the events that can be added to given ones.
 ghost use Rattle.std.specs.Prelude.{◌≡◌, IfOk, Ok};
 ghost use Rattle.papi_tools.specs.Openings.{Answers, ToolSays};
-ghost use Rattle.papi_tools.specs.Looking.{FilesSeen, IsTextual, LookedBy, StopsByFile};
+ghost use Rattle.papi_tools.specs.Looking.{FilesSeen, IsTextual, LookedBy, StaysHeld, StopsByFile};
 ghost use Rattle.papi_tools.specs.Choosing as Choosing;
 ghost use Rattle.papi_tools.specs.Choosing.{chooser_verdict, choice_said};
 
@@ -39,6 +39,7 @@ pub fn choose_events<F: Files>(alloc: Global, files: &mut F, words: &ChooserWord
     ensures said { ToolSays (F.held files.old) result chooser_verdict words.now }
     ensures textual { IfOk result (λ said. IsTextual (Unit {0}) said.outcome) }
     ensures looked { LookedBy F.held F.misses F.faults F.lent result 0 files.old files.new }
+    ensures held { StaysHeld (F.held files.old) (F.held files.new) }
 {
     let catalog = read_catalog(alloc, files, &words.unit, words.presets.as_ref())?;
     said_of(alloc, &catalog, words.kind, words.events.as_slice())

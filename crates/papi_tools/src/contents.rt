@@ -2,7 +2,7 @@
 ghost use Rattle.std.specs.Prelude.{◌≡◌, ℕ, Err, IfOk, List, Ok, Result};
 ghost use Rattle.papi_tools.specs.Openings.{Answers, Is, Leads, opened};
 ghost use Rattle.papi_tools.specs.Contents.{content_under, map_of, regions_in, script_in, unit_of};
-ghost use Rattle.papi_tools.specs.Looking.{FilesSeen, LookedBy, StopsByFile};
+ghost use Rattle.papi_tools.specs.Looking.{FilesSeen, LookedBy, StaysHeld, StopsByFile};
 ghost use Rattle.papi_tools.specs.declared.refusal.Refusal.{Refusal};
 ghost use Rattle.papi_tools.specs.declared.refusal.Refusal.TheVariants.{Faulty};
 
@@ -55,6 +55,7 @@ pub(crate) fn read_file<T: FileContent, F: Files>(
         opened (F.held files.old) (F.held files.new) }
     ensures read { IfOk result (λ value. (bytes : List ℕ) × (T.content name.now bytes ≡ Ok value)) }
     ensures looked { LookedBy F.held F.misses F.faults F.lent result 0 files.old files.new }
+    ensures held { StaysHeld (F.held files.old) (F.held files.new) }
 {
     let bytes = whole_file(alloc, files, name, limit)?;
     T::parse(alloc, name, bytes.as_slice())

@@ -1,7 +1,7 @@
 //! `papi_decode`: gives the presets and user events of a cpu.
 ghost use Rattle.std.specs.Prelude.{IfOk, Ok};
 ghost use Rattle.papi_tools.specs.Openings.{Answers, ToolSays};
-ghost use Rattle.papi_tools.specs.Looking.{FilesSeen, IsTextual, LookedBy, StopsByFile};
+ghost use Rattle.papi_tools.specs.Looking.{FilesSeen, IsTextual, LookedBy, StaysHeld, StopsByFile};
 ghost use Rattle.papi_tools.specs.Decoding.{decode_verdict, decoded_said, shown_in};
 
 use crate::contents::read_file;
@@ -52,6 +52,7 @@ pub fn decode_presets<F: Files>(alloc: Global, files: &mut F, words: &DecodeWord
     ensures said { ToolSays (F.held files.old) result decode_verdict words.now }
     ensures textual { IfOk result (λ said. IsTextual ⊥ said.outcome) }
     ensures looked { LookedBy F.held F.misses F.faults F.lent result 0 files.old files.new }
+    ensures held { StaysHeld (F.held files.old) (F.held files.new) }
 {
     let tables: Tables = read_file(alloc, files, words.unit.as_str(), TABLE_BYTES)?;
     let bytes = read_preset_bytes(alloc, files, &words.presets)?;

@@ -1,7 +1,7 @@
 //! `papi_encode`: gives the codes of events.
 ghost use Rattle.std.specs.Prelude.{◌≡◌, IfOk, Ok, string_bytes};
 ghost use Rattle.papi_tools.specs.Openings.{Answers, ToolSays};
-ghost use Rattle.papi_tools.specs.Looking.{FilesSeen, IsTextual, LookedBy, StopsByFile};
+ghost use Rattle.papi_tools.specs.Looking.{FilesSeen, IsTextual, LookedBy, StaysHeld, StopsByFile};
 ghost use Rattle.papi_tools.specs.Encoding.{answer_line, encode_verdict, encoded_said};
 
 use crate::contents::read_file;
@@ -60,6 +60,7 @@ pub fn encode_names<F: Files>(alloc: Global, files: &mut F, words: &EncodeWords)
     ensures said { ToolSays (F.held files.old) result encode_verdict words.now }
     ensures textual { IfOk result (λ said. IsTextual (Unit {0}) said.outcome) }
     ensures looked { LookedBy F.held F.misses F.faults F.lent result 0 files.old files.new }
+    ensures held { StaysHeld (F.held files.old) (F.held files.new) }
 {
     let tables: Tables = read_file(alloc, files, words.unit.as_str(), TABLE_BYTES)?;
     said_of(alloc, &tables, words.names.as_slice())

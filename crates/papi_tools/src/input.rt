@@ -3,7 +3,7 @@ ghost use Rattle.std.specs.Prelude.{◌≡◌, ◌≤◌, ℕ, All, IfOk, List, 
 ghost use Rattle.component_table.specs.Catalogs.{CatalogView};
 ghost use Rattle.thread_session.specs.SessionView.{IsFresh};
 ghost use Rattle.papi_tools.specs.Contents.{content_under};
-ghost use Rattle.papi_tools.specs.Looking.{LookedBy, out_with};
+ghost use Rattle.papi_tools.specs.Looking.{LookedBy, StaysHeld, out_with};
 ghost use Rattle.papi_tools.specs.Openings.{Ends};
 ghost use Rattle.papi_tools.specs.Running.{CanBeGivenRun, given_of};
 ghost use Rattle.papi_tools.specs.Streams.{sources_in};
@@ -41,6 +41,7 @@ pub(crate) fn open_input<T: FileContent, F: Files>(
     ensures fresh { IfOk result (λ input. All IsFresh input.readers.items) }
     ensures looked { LookedBy F.held F.misses F.faults F.lent result
         (out_with (λ input. sources_in input.readers.items) result) files.old files.new }
+    ensures held { StaysHeld (F.held files.old) (F.held files.new) }
 {
     let script: T = read_file(alloc, files, script.as_str(), SCRIPT_BYTES)?;
     let readers = open_readers(alloc, files, streams)?;

@@ -1,7 +1,7 @@
 //! `papi_native_avail`: lists the native events of a unit, or says what one of them is.
 ghost use Rattle.std.specs.Prelude.{◌≡◌, IfOk, IsSome, Ok, option_map};
 ghost use Rattle.papi_tools.specs.Openings.{Answers, ToolSays};
-ghost use Rattle.papi_tools.specs.Looking.{FilesSeen, IsTextual, LookedBy, StopsByFile};
+ghost use Rattle.papi_tools.specs.Looking.{FilesSeen, IsTextual, LookedBy, StaysHeld, StopsByFile};
 ghost use Rattle.papi_tools.specs.NativeListing.{native_avail_verdict, natives_said};
 
 use crate::contents::read_file;
@@ -49,6 +49,7 @@ pub fn list_natives<F: Files>(alloc: Global, files: &mut F, words: &NativeAvailW
     ensures said { ToolSays (F.held files.old) result native_avail_verdict words.now }
     ensures textual { IfOk result (λ said. IsTextual (IsSome words.now.event) said.outcome) }
     ensures looked { LookedBy F.held F.misses F.faults F.lent result 0 files.old files.new }
+    ensures held { StaysHeld (F.held files.old) (F.held files.new) }
 {
     let tables: Tables = read_file(alloc, files, words.unit.as_str(), TABLE_BYTES)?;
     said_of(alloc, &tables, words)

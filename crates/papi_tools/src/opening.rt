@@ -1,5 +1,7 @@
 //! Files by name: opened, or read whole.
 ghost use Rattle.std.specs.Prelude.{◌≡◌, ◌≤◌, IfOk, length};
+ghost use Rattle.std.specs.Option.{option_map};
+ghost use Rattle.papi_base.specs.Outside as outside;
 ghost use Rattle.papi_tools.specs.Looking.{LookedBy, out_with};
 ghost use Rattle.papi_tools.specs.Openings.{CanGive, Is, Leads, file_bytes, opened, tape_under};
 
@@ -15,6 +17,7 @@ pub fn open_named<F: Files>(alloc: Global, files: &mut F, name: &str) -> Result<
     ensures fresh { IfOk result (λ source. F.S.faults source ≡ 0) }
     ensures looked { LookedBy F.held F.misses F.faults F.lent result
         (out_with (λ _. 1) result) files.old files.new }
+    ensures held { F.held files.new ≡ option_map outside.opened (F.held files.old) }
 {
     let answer = files.open_source(name);
     match answer {
@@ -40,6 +43,7 @@ pub fn whole_file<F: Files>(
         (F.held files.old) (F.held files.new) }
     ensures small { IfOk result (λ bytes. length bytes ≤ limit) }
     ensures looked { LookedBy F.held F.misses F.faults F.lent result 0 files.old files.new }
+    ensures held { F.held files.new ≡ option_map outside.opened (F.held files.old) }
 {
     let mut source = open_named(alloc, files, name)?;
     let answer = read_whole(alloc, &mut source, limit);

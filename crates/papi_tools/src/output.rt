@@ -9,12 +9,12 @@ use papi_base::{Bytes, Sink, WriteFail, write_whole};
 use script_runner::{write_notes, write_replies};
 use std::alloc::Global;
 use std::marker::Model;
-use thread_registry::ReplyLine;
+use thread_registry::ReplyLines;
 
 #[derive(Drop)]
 enum Content {
     Text(Bytes),
-    Replies(Vec<ReplyLine>, Catalog, Vec<Note>),
+    Replies(ReplyLines, Catalog, Vec<Note>),
 }
 
 /// What a tool writes on standard output: a text, or replies and the notes after them, which are made into text as they
@@ -36,7 +36,7 @@ impl Model for Output {
 // Writes the replies, and then the notes. After an error a prefix of both is written.
 fn write_both<K: Sink>(
     alloc: Global,
-    lines: &[ReplyLine],
+    lines: &ReplyLines,
     catalog: &Catalog,
     shown: &[Note],
     out: &mut K,
@@ -66,8 +66,8 @@ impl Output {
     }
 
     /// The replies of a run, and the notes that are shown after them.
-    pub fn replies(lines: Vec<ReplyLine>, catalog: Catalog, shown: Vec<Note>) -> Output
-        ensures { result ≡ replies_text catalog lines.items ++ notes_text shown.items }
+    pub fn replies(lines: ReplyLines, catalog: Catalog, shown: Vec<Note>) -> Output
+        ensures { result ≡ replies_text catalog lines ++ notes_text shown.items }
     {
         Output {
             content: Content::Replies(lines, catalog, shown),
@@ -86,7 +86,7 @@ impl Output {
             Content::Text(text) => write_whole(out, text.as_slice()),
             Content::Replies(lines, catalog, shown) => write_both(
                 alloc,
-                lines.as_slice(),
+                lines,
                 catalog,
                 shown.as_slice(),
                 out,

@@ -2,7 +2,7 @@
 ghost use Rattle.std.specs.Option.{option_copied};
 ghost use Rattle.papi_tools.specs.Openings.{Answers, Is, Leads, file_bytes, opened};
 ghost use Rattle.papi_tools.specs.Contents.{after_presets, presets_asked, presets_of};
-ghost use Rattle.papi_tools.specs.Looking.{FilesSeen, LookedBy, StopsByFile};
+ghost use Rattle.papi_tools.specs.Looking.{FilesSeen, LookedBy, StaysHeld, StopsByFile};
 
 use crate::contents::faulty;
 use crate::limits::TABLE_BYTES;
@@ -39,6 +39,7 @@ pub fn read_preset_bytes<F: Files>(
         (λ openings. file_bytes TABLE_BYTES openings words.now.file) opened (F.held files.old)
         (F.held files.new) }
     ensures looked { LookedBy F.held F.misses F.faults F.lent result 0 files.old files.new }
+    ensures held { StaysHeld (F.held files.old) (F.held files.new) }
 {
     whole_file(alloc, files, words.file.as_str(), TABLE_BYTES)
 }
@@ -52,6 +53,7 @@ pub fn read_presets_asked<F: Files>(
     ensures found { Leads Is result (λ openings. presets_asked openings (option_copied words.entry))
         (after_presets (option_copied words.entry)) (F.held files.old) (F.held files.new) }
     ensures looked { LookedBy F.held F.misses F.faults F.lent result 0 files.old files.new }
+    ensures held { StaysHeld (F.held files.old) (F.held files.new) }
 {
     match words {
         Some(words) => {

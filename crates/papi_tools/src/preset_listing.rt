@@ -1,7 +1,7 @@
 //! `papi_avail`: lists the presets and user events of a cpu, or says what one of them is.
 ghost use Rattle.std.specs.Prelude.{IfOk, IsSome, Ok};
 ghost use Rattle.papi_tools.specs.Openings.{Answers, ToolSays};
-ghost use Rattle.papi_tools.specs.Looking.{FilesSeen, IsTextual, LookedBy, StopsByFile};
+ghost use Rattle.papi_tools.specs.Looking.{FilesSeen, IsTextual, LookedBy, StaysHeld, StopsByFile};
 ghost use Rattle.papi_tools.specs.PresetListing.{avail_verdict, presets_said};
 
 use crate::tables::read_catalog;
@@ -36,6 +36,7 @@ pub fn list_presets<F: Files>(alloc: Global, files: &mut F, words: &AvailWords) 
     ensures said { ToolSays (F.held files.old) result avail_verdict words.now }
     ensures textual { IfOk result (λ said. IsTextual (IsSome words.now.event) said.outcome) }
     ensures looked { LookedBy F.held F.misses F.faults F.lent result 0 files.old files.new }
+    ensures held { StaysHeld (F.held files.old) (F.held files.new) }
 {
     let catalog = read_catalog(alloc, files, &words.unit, Some(&words.presets))?;
     said_of(alloc, &catalog, words.available, &words.event)

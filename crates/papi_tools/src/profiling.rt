@@ -3,7 +3,7 @@ ghost use Rattle.std.specs.Prelude.{◌≡◌, ◌≤◌, ◌<◌, ◌+◌, ◌^
 ghost use Rattle.std.specs.Prelude.{OnOk, ℕ, [], List, drop, length, map, slice_index_or, vec_len};
 ghost use Rattle.profil_hist.specs.Histograms.{IsHistogram};
 ghost use Rattle.papi_tools.specs.Openings.{Answers};
-ghost use Rattle.papi_tools.specs.Looking.{FilesSeen, LookedBy, StopsByFile};
+ghost use Rattle.papi_tools.specs.Looking.{FilesSeen, LookedBy, StaysHeld, StopsByFile};
 ghost use Rattle.papi_tools.specs.Profiling.{counted_in, is_counted, profil_verdict, profile_said};
 ghost use Rattle.papi_tools.specs.Verdict.{ToolTells};
 
@@ -140,6 +140,7 @@ pub fn profile<R: Threads + Sync, F: Files>(
         (λ openings. profil_verdict openings words.now) ⊥
         (map (λ b. notes b) handlers.old.items) (map (λ b. notes b) handlers.new.items) }
     ensures looked { LookedBy F.held F.misses F.faults F.lent result 0 files.old files.new }
+    ensures held { StaysHeld (F.held files.old) (F.held files.new) }
 {
     let catalog = read_catalog(alloc, files, &words.unit, words.presets.as_ref())?;
     let map: Map = read_file(alloc, files, words.map.as_str(), TABLE_BYTES)?;

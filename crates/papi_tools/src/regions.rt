@@ -8,7 +8,7 @@ ghost use Rattle.region_report.specs.Reports.{report_text};
 ghost use Rattle.region_report.specs.Spans.{reading_values, spans_from};
 ghost use Rattle.thread_session.specs.SessionView.{IsFresh};
 ghost use Rattle.papi_tools.specs.Openings.{Answers, ToolSays};
-ghost use Rattle.papi_tools.specs.Looking.{FilesSeen, LookedBy, Shows, StopsByFile};
+ghost use Rattle.papi_tools.specs.Looking.{FilesSeen, LookedBy, Shows, StaysHeld, StopsByFile};
 ghost use Rattle.papi_tools.specs.Contents.{regions_in};
 ghost use Rattle.papi_tools.specs.Marks.{marked_said};
 ghost use Rattle.papi_tools.specs.RegionCounts.{GivenRegions, readings_in, regions_said, regions_verdict};
@@ -33,7 +33,7 @@ use std::alloc::{AllocError, Global};
 use std::marker::{Send, Sync};
 use std::thread::Threads;
 use stream_reader::StreamReader;
-use thread_registry::ReplyLine;
+use thread_registry::{ReplyLine, ReplyLines};
 use tool_output::{Candidates, choose};
 use tool_words::RegionsWords;
 
@@ -54,12 +54,12 @@ fn push_reading(readings: &mut Vec<Reading>, line: &ReplyLine) -> Result<(), All
 }
 
 // What was read, in the order of the script.
-fn readings_of(alloc: Global, lines: &[ReplyLine]) -> Result<Vec<Reading>, AllocError>
+fn readings_of(alloc: Global, lines: &ReplyLines) -> Result<Vec<Reading>, AllocError>
     ensures { IfOk result (λ readings. reading_values readings.items ≡ readings_in lines.now) }
 {
     let mut readings = Vec::new(alloc);
-    for line in lines {
-        push_reading(&mut readings, line)?;
+    for i in 0..lines.len() {
+        push_reading(&mut readings, &lines.at(i))?;
     }
     Ok(readings)
 }
@@ -69,11 +69,11 @@ fn said_of(alloc: Global, regions: &Regions, events: &[Text], ran: &RanScript) -
     requires { length events.now ≤ MOST_SET_EVENTS }
     ensures said { Answers result (Ok (marked_said ran.now.marks
         (report_text (length events.now)
-        (spans_from (readings_in ran.now.lines.items) 0 regions.now)))) }
-    ensures fit { IfOk result (λ _. AllFit (readings_in ran.now.lines.items)) }
+        (spans_from (readings_in ran.now.lines) 0 regions.now)))) }
+    ensures fit { IfOk result (λ _. AllFit (readings_in ran.now.lines)) }
     ensures cause { (before after : FilesSeen) → StopsByFile result before after }
 {
-    let readings = readings_of(alloc, ran.lines.as_slice())?;
+    let readings = readings_of(alloc, &ran.lines)?;
     let read = readings.as_slice();
     readings_fit(read);
     let text = report(alloc, regions, events.len() as u32, read)?;
@@ -159,6 +159,7 @@ pub fn count_regions<R: Threads + Sync, F: Files>(
     ensures shows { IfOk result
         (λ said. Shows (Unit {0}) (F.faults files.old) (F.faults files.new) said.outcome) }
     ensures looked { LookedBy F.held F.misses F.faults F.lent result 0 files.old files.new }
+    ensures held { StaysHeld (F.held files.old) (F.held files.new) }
 {
     let catalog = read_catalog(alloc, files, &words.unit, words.presets.as_ref())?;
     let input = open_input::<Regions, F>(alloc, files, &words.script, words.streams.as_slice())?;

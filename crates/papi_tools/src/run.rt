@@ -2,7 +2,7 @@
 ghost use Rattle.std.specs.Prelude.{◌≡◌, IfOk, if◌then◌else◌, [], length, map, vec_len};
 ghost use Rattle.overflow_dispatch.specs.Notes.{told_since};
 ghost use Rattle.papi_tools.specs.Openings.{Answers};
-ghost use Rattle.papi_tools.specs.Looking.{FilesSeen, LookedBy, StopsByFile};
+ghost use Rattle.papi_tools.specs.Looking.{FilesSeen, LookedBy, StaysHeld, StopsByFile};
 ghost use Rattle.papi_tools.specs.Run.{run_said, run_verdict};
 ghost use Rattle.papi_tools.specs.Verdict.{ToolTells};
 
@@ -49,7 +49,7 @@ fn said_of(
 ) -> ToolResult
     requires { vec_len ran.noted ≡ vec_len handlers.now }
     ensures said { Answers result
-        (Ok (run_said catalog ran.lines.items ran.marks
+        (Ok (run_said catalog ran.lines ran.marks
         (if wanted then told_since ran.noted.items (map (λ b. notes b) handlers.now.items)
         else []))) }
     ensures cause { (before after : FilesSeen) → StopsByFile result before after }
@@ -75,6 +75,7 @@ pub fn run<R: Threads + Sync, F: Files>(
         (λ openings. run_verdict openings words.now) ⊥
         (map (λ b. notes b) handlers.old.items) (map (λ b. notes b) handlers.new.items) }
     ensures looked { LookedBy F.held F.misses F.faults F.lent result 0 files.old files.new }
+    ensures held { StaysHeld (F.held files.old) (F.held files.new) }
 {
     let catalog = read_catalog(alloc, files, &words.unit, words.presets.as_ref())?;
     let input = open_input::<Script, F>(alloc, files, &words.script, words.streams.as_slice())?;

@@ -19,13 +19,13 @@ use std::alloc::{AllocError, Global};
 use std::marker::{Send, Sync};
 use std::thread::Threads;
 use stream_reader::StreamReader;
-use thread_registry::{ReplyLine, RunResult, run_plan};
+use thread_registry::{ReplyLines, RunResult, run_plan};
 
 /// What a run gives: the replies in the order of the script, the mark that each thread's runs met, and how many notes each
 /// handler had before.
 #[derive(Drop)]
 pub struct RanScript {
-    pub lines: Vec<ReplyLine>,
+    pub lines: ReplyLines,
     pub marks: [Option<Ended>; THREADS as usize],
     pub noted: Vec<u64>,
 }
@@ -49,7 +49,7 @@ pub fn run_script<R: Threads + Sync, S: Source + Send>(
     requires handlers { vec_len handlers.old ≡ THREADS }
     requires workers { 1 ≤ workers }
     ensures len { vec_len handlers.new ≡ THREADS }
-    ensures marks { IfOk result (λ ran. ran.marks ≡ marks_in ran.lines.items) }
+    ensures marks { IfOk result (λ ran. ran.marks ≡ marks_in ran.lines) }
     ensures noted { IfOk result
         (λ ran. ran.noted.items ≡ note_counts (map (λ b. notes b) handlers.old.items)) }
     ensures told { (given : GivenRun) → IsGivenRun catalog.now script.now readers.old.items given
@@ -67,7 +67,7 @@ pub fn run_script<R: Threads + Sync, S: Source + Send>(
         (map (λ b. notes b) handlers.new.items) }
     ensures sources { sources_in readers.new.items ≡ sources_in readers.old.items }
     ensures faulty { IfOk result
-        (λ ran. Any (λ l. IsFaultReply l.reply) ran.lines.items → SomeFailed readers.new.items) }
+        (λ ran. Any (λ l. IsFaultReply l.reply) ran.lines → SomeFailed readers.new.items) }
 {
     let noted = counts_of(alloc, handlers)?;
     let mut codes = NativeCodes::new(alloc);
@@ -106,7 +106,7 @@ pub fn run_and_close<R: Threads + Sync, F: Files>(
     requires handlers { vec_len handlers.old ≡ THREADS }
     requires workers { 1 ≤ workers }
     ensures len { vec_len handlers.new ≡ THREADS }
-    ensures marks { IfOk result (λ ran. ran.marks ≡ marks_in ran.lines.items) }
+    ensures marks { IfOk result (λ ran. ran.marks ≡ marks_in ran.lines) }
     ensures noted { IfOk result
         (λ ran. ran.noted.items ≡ note_counts (map (λ b. notes b) handlers.old.items)) }
     ensures possible { (given : GivenRun) × CanBeGivenRun catalog.now script.now readers.items given
@@ -114,9 +114,10 @@ pub fn run_and_close<R: Threads + Sync, F: Files>(
         (map (λ b. notes b) handlers.new.items) }
     ensures grown { EachGrown (map (λ b. notes b) handlers.old.items)
         (map (λ b. notes b) handlers.new.items) }
-    ensures faulty { IfOk result (λ ran. Any (λ l. IsFaultReply l.reply) ran.lines.items
+    ensures faulty { IfOk result (λ ran. Any (λ l. IsFaultReply l.reply) ran.lines
         → Rose (F.faults files.old) (F.faults files.new)) }
     ensures lent { F.lent files.new ≡ F.lent files.old - sources_in readers.items }
+    ensures held { F.held files.new ≡ F.held files.old }
     ensures misses_stay { F.misses files.old ≤ F.misses files.new }
     ensures faults_stay { F.faults files.old ≤ F.faults files.new }
 {

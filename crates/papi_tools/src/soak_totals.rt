@@ -6,7 +6,7 @@ use papi_base::{CallName, THREADS, Values};
 use session_model::Body;
 use soak_input::{SOAK_THREADS, ThreadTotal};
 use std::alloc::{AllocError, Global};
-use thread_registry::ReplyLine;
+use thread_registry::{ReplyLine, ReplyLines};
 
 fn values_of(body: &Body) -> Values
     ensures { result ≡ values_of body.now }
@@ -24,11 +24,12 @@ fn stops(line: &ReplyLine, thread: u32) -> bool
     line.thread == thread && matches!(line.word, CallName::Stop)
 }
 
-fn stop_values(lines: &[ReplyLine], thread: u32) -> Values
+fn stop_values(lines: &ReplyLines, thread: u32) -> Values
     ensures { result ≡ stop_values lines.now thread }
 {
-    for line in lines {
-        if stops(line, thread) {
+    for i in 0..lines.len() {
+        let line = lines.at(i);
+        if stops(&line, thread) {
             return values_of(&line.reply.body);
         }
     }
@@ -38,7 +39,7 @@ fn stop_values(lines: &[ReplyLine], thread: u32) -> Values
 /// What each thread of a soak counted, by the replies and by how many notes the handlers had before and have after.
 pub fn totals_between(
     alloc: Global,
-    lines: &[ReplyLine],
+    lines: &ReplyLines,
     before: &[u64],
     after: &[u64],
 ) -> Result<Vec<ThreadTotal>, AllocError>

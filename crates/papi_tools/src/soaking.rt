@@ -95,18 +95,13 @@ fn said_of(alloc: Global, ran: &RanScript, handlers: &Vec<Box<dyn Handler + Send
     requires handlers { vec_len handlers.now ≡ THREADS }
     requires noted { vec_len ran.now.noted ≡ THREADS }
     ensures said { Answers result (Ok (summary_said
-        (totals_between ran.now.lines.items ran.now.noted.items
-        (map (λ b. length (notes b)) handlers.now.items)) (length ran.now.lines.items))) }
+        (totals_between ran.now.lines ran.now.noted.items
+        (map (λ b. length (notes b)) handlers.now.items)) (length ran.now.lines))) }
     ensures textual { IfOk result (λ said. IsTextual ⊥ said.outcome) }
     ensures cause { (before after : FilesSeen) → StopsByFile result before after }
 {
     let noted = counts_of(alloc, handlers)?;
-    let totals = totals_between(
-        alloc,
-        ran.lines.as_slice(),
-        ran.noted.as_slice(),
-        noted.as_slice(),
-    )?;
+    let totals = totals_between(alloc, &ran.lines, ran.noted.as_slice(), noted.as_slice())?;
     let text = summary_text(alloc, totals.as_slice(), ran.lines.len())?;
     Ok(Said::text(alloc, true, Bytes::new(text.into_bytes())))
 }

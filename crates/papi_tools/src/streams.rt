@@ -4,7 +4,7 @@ ghost use Rattle.papi_base.specs.Outside.{Rose};
 ghost use Rattle.thread_registry.specs.Runs.{CanEachCome};
 ghost use Rattle.stream_reader.specs.Reader.{coming, faults_of, new_view};
 ghost use Rattle.thread_session.specs.SessionView.{IsFresh};
-ghost use Rattle.papi_tools.specs.Looking.{LookedBy, out_with};
+ghost use Rattle.papi_tools.specs.Looking.{LookedBy, StaysHeld, out_with};
 ghost use Rattle.papi_tools.specs.Openings.{Ends, tapes_under};
 ghost use Rattle.papi_tools.specs.Streams.{CanEachGive, IsUnread, SomeFailed, empty_stream, sources_in, streams_under};
 
@@ -31,6 +31,7 @@ fn open_into<F: Files>(
     ensures fresh { All IsFresh readers.new.items }
     ensures looked { LookedBy F.held F.misses F.faults F.lent result
         (sources_in readers.new.items) files.old files.new }
+    ensures held { StaysHeld (F.held files.old) (F.held files.new) }
 {
     for name in names {
         match open_named(alloc, files, name.as_str()) {
@@ -73,6 +74,7 @@ pub fn open_readers<F: Files>(
     ensures fresh { IfOk result (λ readers. All IsFresh readers.items) }
     ensures looked { LookedBy F.held F.misses F.faults F.lent result
         (out_with (λ readers. sources_in readers.items) result) files.old files.new }
+    ensures held { StaysHeld (F.held files.old) (F.held files.new) }
 {
     let mut readers = Vec::with_capacity(alloc, THREADS as usize)?;
     match open_into(alloc, files, names, &mut readers) {

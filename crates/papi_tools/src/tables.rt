@@ -1,6 +1,6 @@
 //! The tables of a tool: the unit, and then the presets and user events if they are asked for.
 ghost use Rattle.std.specs.Option.{option_copied};
-ghost use Rattle.papi_tools.specs.Looking.{LookedBy};
+ghost use Rattle.papi_tools.specs.Looking.{LookedBy, StaysHeld};
 ghost use Rattle.papi_tools.specs.Openings.{Is, Leads};
 ghost use Rattle.papi_tools.specs.Contents.{after_tables, catalog_under};
 
@@ -25,6 +25,7 @@ pub fn read_catalog<F: Files>(
         (λ openings. catalog_under openings unit.now (option_copied presets.entry))
         (after_tables (option_copied presets.entry)) (F.held files.old) (F.held files.new) }
     ensures looked { LookedBy F.held F.misses F.faults F.lent result 0 files.old files.new }
+    ensures held { StaysHeld (F.held files.old) (F.held files.new) }
 {
     let tables: Tables = read_file(alloc, files, unit.as_str(), TABLE_BYTES)?;
     let presets = read_presets_asked(alloc, files, presets)?;

@@ -3,7 +3,7 @@ ghost use Rattle.std.specs.Prelude.{◌≡◌, IfOk, Some, map, string_bytes, ve
 ghost use Rattle.overflow_dispatch.specs.Notes.{EachGrown};
 ghost use Rattle.tool_words.specs.Form.{form};
 ghost use Rattle.papi_tools.specs.Carried.{CarriesOutAndTells};
-ghost use Rattle.papi_tools.specs.Looking.{LookedBy, SaysNo, Shows, files_seen, sink_seen};
+ghost use Rattle.papi_tools.specs.Looking.{LookedBy, SaysNo, Shows, StaysHeld, files_seen, sink_seen};
 ghost use Rattle.papi_tools.specs.Openings.{ForSome};
 ghost use Rattle.papi_tools.specs.Verdict.{IsSettledAs, ToolTells, command_verdict, verdict_for};
 
@@ -40,6 +40,7 @@ fn carried_out<R: Threads + Sync, F: Files>(
         (λ openings. command_verdict openings command.now) (SaysNo (Some command.now))
         (map (λ b. notes b) handlers.old.items) (map (λ b. notes b) handlers.new.items) }
     ensures looked { LookedBy F.held F.misses F.faults F.lent result 0 files.old files.new }
+    ensures held { StaysHeld (F.held files.old) (F.held files.new) }
 {
     match command {
         Command::Run(words) => run(rt, alloc, files, words, handlers),
@@ -75,6 +76,7 @@ fn said_of<R: Threads + Sync, F: Files>(
     ensures shows { IfOk result (λ said. Shows (SaysNo (form (map string_bytes words.now.items)))
         (F.faults files.old) (F.faults files.new) said.outcome) }
     ensures returned { F.lent files.new ≡ F.lent files.old }
+    ensures held { StaysHeld (F.held files.old) (F.held files.new) }
 {
     let command = match read_words(alloc, words.as_slice()) {
         Ok(command) => command,

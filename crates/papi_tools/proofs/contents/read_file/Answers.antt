@@ -3,6 +3,7 @@ use Rattle.papi_tools.specs.Openings.{Answers, Is, file_bytes, opened}
 use Rattle.papi_tools.specs.declared.refusal.Refusal.{Refusal}
 use Rattle.papi_tools.specs.declared.refusal.Stop.{Stop}
 use Rattle.papi_tools.proofs.FindingLemmas.{failed, leads_on, plain}
+use Rattle.papi_tools.proofs.HoldingLemmas.{one_opened}
 use Rattle.papi_tools.proofs.contents.read_file.Goals as goal
 
 pub returns-in_err-bytes-clause-found : goal.returns-in_err-bytes-clause-found
@@ -22,3 +23,9 @@ read_of (Err s) content bytes h = tt
 
 pub returns-clause-read : goal.returns-clause-read
 returns-clause-read g c = read_of c.parse.result (g.T.FileContent.content c.args.name.now) _ c.parse.ensures.told
+
+pub returns-in_err-bytes-clause-held : goal.returns-in_err-bytes-clause-held
+returns-in_err-bytes-clause-held g c = one_opened _ _ c.in_err-bytes.ensures.held
+
+pub returns-clause-held : goal.returns-clause-held
+returns-clause-held g c = one_opened _ _ c.in_ok-bytes.ensures.held

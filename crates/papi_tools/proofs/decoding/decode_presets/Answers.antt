@@ -9,6 +9,7 @@ use Rattle.papi_tools.specs.declared.limits.TheConstants.{TABLE_BYTES}
 use Rattle.papi_tools.specs.declared.refusal.Stop.{Stop}
 use Rattle.papi_tools.specs.declared.said.Said.{Said}
 use Rattle.papi_tools.proofs.FindingLemmas.{answered, plain, refused_first, so_after}
+use Rattle.papi_tools.proofs.HoldingLemmas.{both_held}
 use Rattle.papi_tools.proofs.decoding.decode_presets.Goals as goal
 
 -- the unit was read
@@ -45,3 +46,12 @@ returns-clause-said g c =
     (with_file c.args.words.now c.in_ok-tables.tables c.in_ok-bytes.bytes _ _ _ c.in_ok-bytes.ensures.found
     (answered c.in_ok-presets.presets c.said_of.result (λ o. shown_in c.args.words.now c.in_ok-tables.tables c.in_ok-bytes.bytes) (λ presets. Ok (decoded_said presets)) (λ o. o) _ _
     (plain (Ok c.in_ok-presets.presets) _ _ _ refl (rw c.as_slice.ensures at c.in_ok-presets.ensures.told)) c.said_of.ensures.said))
+
+pub returns-in_err-bytes-clause-held : goal.returns-in_err-bytes-clause-held
+returns-in_err-bytes-clause-held g c = both_held _ _ _ c.in_ok-tables.ensures.held c.in_err-bytes.ensures.held
+
+pub returns-in_err-presets-clause-held : goal.returns-in_err-presets-clause-held
+returns-in_err-presets-clause-held g c = both_held _ _ _ c.in_ok-tables.ensures.held c.in_ok-bytes.ensures.held
+
+pub returns-clause-held : goal.returns-clause-held
+returns-clause-held g c = both_held _ _ _ c.in_ok-tables.ensures.held c.in_ok-bytes.ensures.held

@@ -3,6 +3,7 @@ use Rattle.papi_tools.specs.Contents.{presets_of}
 use Rattle.papi_tools.specs.Openings.{Is, and_then, file_bytes, opened}
 use Rattle.papi_tools.specs.declared.limits.TheConstants.{TABLE_BYTES}
 use Rattle.papi_tools.proofs.FindingLemmas.{failed, failed_after, leads_on, plain}
+use Rattle.papi_tools.proofs.HoldingLemmas.{same_held}
 use Rattle.papi_tools.proofs.preset_file.read_presets_asked.Goals as goal
 
 pub returns-in_err-bytes-in-Some-clause-found : goal.returns-in_err-bytes-in-Some-clause-found
@@ -28,3 +29,6 @@ returns-in_ok-presets-in-Some-clause-found g c =
 
 pub returns-in-None-clause-found : goal.returns-in-None-clause-found
 returns-in-None-clause-found g c = rw c.in-None.is (plain (Ok None) (Ok None) _ _ refl refl)
+
+pub returns-in-None-clause-held : goal.returns-in-None-clause-held
+returns-in-None-clause-held g c = same_held _ _ refl

@@ -5,6 +5,7 @@ use Rattle.papi_tools.specs.Openings.{Answers, Is}
 use Rattle.papi_tools.specs.RegionCounts.{counted_of, regions_said, regions_verdict}
 use Rattle.papi_tools.specs.Running.{CanBeGivenRun, given_of}
 use Rattle.papi_tools.proofs.FindingLemmas.{failed, failed_after, refused, refused_first, so_after, so_at_end}
+use Rattle.papi_tools.proofs.HoldingLemmas.{both_held, held_then}
 use Rattle.papi_tools.proofs.RunLemmas.{shows_later}
 use Rattle.papi_tools.proofs.regions.count_regions.Goals as goal
 
@@ -44,3 +45,9 @@ pub returns-clause-shows : goal.returns-clause-shows
 returns-clause-shows g c =
     shows_later (Unit {0}) _ _ _ c.count-answer.result (let h = c.in_ok-catalog.ensures.looked.faults_stay in let k = c.in_ok-input.ensures.looked.faults_stay in omega arith) c.close_readers.ensures.faults_stay
     (c.count-answer.ensures.shows _ _ c.close_readers.ensures.faulty)
+
+pub returns-in_err-input-clause-held : goal.returns-in_err-input-clause-held
+returns-in_err-input-clause-held g c = both_held _ _ _ c.in_ok-catalog.ensures.held c.in_err-input.ensures.held
+
+pub returns-clause-held : goal.returns-clause-held
+returns-clause-held g c = held_then _ _ _ (both_held _ _ _ c.in_ok-catalog.ensures.held c.in_ok-input.ensures.held) c.close_readers.ensures.held

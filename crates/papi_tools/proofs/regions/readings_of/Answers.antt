@@ -1,6 +1,8 @@
-use Rattle.std.proofs.Common.{arith}
+use Rattle.std.proofs.Common.{rules, sym}
+use Rattle.std.proofs.lemmas.Option.{get_or_from_slice_get}
 use Rattle.papi_tools.proofs.RegionLemmas.{reading_more}
 use Rattle.papi_tools.proofs.regions.readings_of.Goals as goal
 
-pub loop-line-preserved : goal.loop-line-preserved
-loop-line-preserved c = reading_more c.args.lines.now c.loop-line.line-index c.line-item.result _ _ (omega arith) c.line-item.is c.in_ok-push_reading.ensures c.loop-line.invariant
+pub loop-i-preserved : goal.loop-i-preserved
+loop-i-preserved c =
+    reading_more c.args.lines.now c.loop-i.i c.at.result _ _ (search rules) (sym (get_or_from_slice_get c.args.lines.now c.loop-i.i c.at.result c.at.result c.at.ensures.line)) c.in_ok-push_reading.ensures c.loop-i.invariant

@@ -3,5 +3,5 @@ use Rattle.region_report.specs.Spans.{reading_values}
 use Rattle.papi_tools.specs.RegionCounts.{readings_in}
 use Rattle.papi_tools.proofs.regions.readings_of.Given as goal
 
-abbrev pub invariant-loop-line : goal.invariant-loop-line
-invariant-loop-line l = reading_values l.readings.items ≡ readings_in (take l.line-index l.lines)
+abbrev pub invariant-loop-i : goal.invariant-loop-i
+invariant-loop-i l = reading_values l.readings.items ≡ readings_in (take l.i l.lines)

@@ -4,6 +4,7 @@ use Rattle.papi_tools.specs.Run.{ran_of, ran_verdict, run_verdict}
 use Rattle.papi_tools.specs.Running.{CanBeGivenRun, given_of}
 use Rattle.papi_tools.specs.declared.refusal.Stop.TheVariants.{Memory}
 use Rattle.papi_tools.proofs.FindingLemmas.{failed}
+use Rattle.papi_tools.proofs.HoldingLemmas.{both_held, held_then}
 use Rattle.papi_tools.proofs.RunLemmas.{run_shows, said_told, shows_later}
 use Rattle.papi_tools.proofs.StepLemmas.{comes_at_end, stopped, tells_all, with_catalog}
 use Rattle.papi_tools.proofs.run.run.Goals as goal
@@ -62,3 +63,12 @@ returns-clause-tells g c =
           shows_later ⊥ _ _ _ c.said_of.result (let h = c.in_ok-catalog.ensures.looked.faults_stay in let k = c.in_ok-input.ensures.looked.faults_stay in omega arith) c.in_ok-ran.ensures.faults_stay
           (run_shows ⊥ _ _ _ _ _ c.said_of.result c.said_of.ensures.said c.in_ok-ran.ensures.marks c.in_ok-ran.ensures.faulty);
     })
+
+pub returns-in_err-input-clause-held : goal.returns-in_err-input-clause-held
+returns-in_err-input-clause-held g c = both_held _ _ _ c.in_ok-catalog.ensures.held c.in_err-input.ensures.held
+
+pub returns-in_err-ran-clause-held : goal.returns-in_err-ran-clause-held
+returns-in_err-ran-clause-held g c = held_then _ _ _ (both_held _ _ _ c.in_ok-catalog.ensures.held c.in_ok-input.ensures.held) c.in_err-ran.ensures.held
+
+pub returns-clause-held : goal.returns-clause-held
+returns-clause-held g c = held_then _ _ _ (both_held _ _ _ c.in_ok-catalog.ensures.held c.in_ok-input.ensures.held) c.in_ok-ran.ensures.held

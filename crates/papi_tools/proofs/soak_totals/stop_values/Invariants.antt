@@ -3,5 +3,5 @@ use Rattle.std.specs.Prelude.{find}
 use Rattle.papi_tools.specs.Soaking.{stops}
 use Rattle.papi_tools.proofs.soak_totals.stop_values.Given as goal
 
-abbrev pub invariant-loop-line : goal.invariant-loop-line
-invariant-loop-line l = find (stops l.thread) l.lines ≡ find (stops l.thread) (drop l.line-index l.lines)
+abbrev pub invariant-loop-i : goal.invariant-loop-i
+invariant-loop-i l = find (stops l.thread) l.lines ≡ find (stops l.thread) (drop l.i l.lines)

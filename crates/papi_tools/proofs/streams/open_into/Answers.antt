@@ -4,6 +4,7 @@ use Rattle.std.proofs.lemmas.List.Elements.{All-push}
 use Rattle.stream_reader.specs.Reader.{tape_of}
 use Rattle.thread_session.specs.SessionView.{IsFresh}
 use Rattle.papi_tools.specs.Streams.{IsUnread}
+use Rattle.papi_tools.proofs.HoldingLemmas.{both_held, one_opened, same_held}
 use Rattle.papi_tools.proofs.OpeningLemmas.{all_open, more_at, start, stopped_at, unread}
 use Rattle.papi_tools.proofs.StreamLemmas.{no_items, sources_in-append}
 use Rattle.papi_tools.proofs.streams.open_into.Goals as goal
@@ -18,6 +19,7 @@ loop-name-init g c =
       room = refl;
       fresh = rw none (λ k d small. absurd (omega arith));
       lent = rw none (omega arith);
+      held = same_held _ _ refl;
       misses_stay = omega arith;
       faults_stay = omega arith;
     }
@@ -34,9 +36,13 @@ loop-name-preserved g c = record {
   room = grind arith;
   fresh = rw c.push_reserved.ensures.items (All-push IsFresh _ _ c.loop-name.invariant.fresh (search rules));
   lent = rw (c.push_reserved.ensures.items, sources_in-append, c.new.ensures.view) (let h = c.in-Ok.ensures.looked.lent in omega arith);
+  held = both_held _ _ _ c.loop-name.invariant.held (one_opened _ _ c.in-Ok.ensures.held);
   misses_stay = let h = c.in-Ok.ensures.looked.misses_stay in omega arith;
   faults_stay = let h = c.in-Ok.ensures.looked.faults_stay in omega arith;
 }
 
 pub returns-clause-found : goal.returns-clause-found
 returns-clause-found g c = all_open _ _ c.args.names.now _ _ (drop_all c.loop-name.name-index c.args.names.now (omega arith)) c.loop-name.invariant.found
+
+pub returns-in-Err-clause-held : goal.returns-in-Err-clause-held
+returns-in-Err-clause-held g c = both_held _ _ _ c.loop-name.invariant.held (one_opened _ _ c.in-Err.ensures.held)

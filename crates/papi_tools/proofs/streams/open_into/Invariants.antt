@@ -1,5 +1,6 @@
 use Rattle.std.proofs.Common.{◌≡◌, ◌≤◌, ◌+◌, All, drop, vec_capacity, vec_len}
 use Rattle.thread_session.specs.SessionView.{IsFresh}
+use Rattle.papi_tools.specs.Looking.{StaysHeld}
 use Rattle.papi_tools.specs.Streams.{IsUnread, sources_in}
 use Rattle.papi_tools.proofs.OpeningLemmas.{AreOpen}
 use Rattle.papi_tools.proofs.streams.open_into.Given as goal
@@ -12,6 +13,7 @@ invariant-loop-name g l = record {
   room : vec_capacity l.readers ≡ vec_capacity l.initial.readers;
   fresh : All IsFresh l.readers.items;
   lent : g.F.Files.lent l.files ≡ g.F.Files.lent l.initial.files + sources_in l.readers.items;
+  held : StaysHeld (g.F.Files.held l.initial.files) (g.F.Files.held l.files);
   misses_stay : g.F.Files.misses l.initial.files ≤ g.F.Files.misses l.files;
   faults_stay : g.F.Files.faults l.initial.files ≤ g.F.Files.faults l.files;
 }

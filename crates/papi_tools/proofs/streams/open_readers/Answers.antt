@@ -1,7 +1,8 @@
-use Rattle.std.proofs.Common.{Ok, arith, vec_len}
+use Rattle.std.proofs.Common.{Ok, arith, refl, vec_len}
 use Rattle.papi_tools.specs.Openings.{tapes_under}
 use Rattle.papi_tools.specs.Streams.{streams_of}
 use Rattle.papi_tools.proofs.FindingLemmas.{failed}
+use Rattle.papi_tools.proofs.HoldingLemmas.{held_then, same_held}
 use Rattle.papi_tools.proofs.LookingLemmas.{stopped_then}
 use Rattle.papi_tools.proofs.OpeningLemmas.{streams_found}
 use Rattle.papi_tools.proofs.streams.open_readers.Goals as goal
@@ -28,3 +29,9 @@ returns-in-Err-clause-looked g c =
       faults_stay = omega (arith, looked.faults_stay, closed.faults_stay);
       lent = omega (arith, looked.lent, closed.lent);
     }
+
+pub returns-in_err-readers-clause-held : goal.returns-in_err-readers-clause-held
+returns-in_err-readers-clause-held g c = same_held _ _ refl
+
+pub returns-in-Err-clause-held : goal.returns-in-Err-clause-held
+returns-in-Err-clause-held g c = held_then _ _ _ c.in-Err.ensures.held c.close_readers.ensures.held

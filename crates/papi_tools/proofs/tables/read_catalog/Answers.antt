@@ -5,6 +5,7 @@ use Rattle.papi_tools.specs.Contents.{after_presets, catalog_under, catalog_with
 use Rattle.papi_tools.specs.Openings.{Is, opened}
 use Rattle.papi_tools.specs.declared.refusal.Stop.TheVariants.{Memory}
 use Rattle.papi_tools.proofs.FindingLemmas.{failed, failed_after, leads_on, plain}
+use Rattle.papi_tools.proofs.HoldingLemmas.{both_held}
 use Rattle.papi_tools.proofs.tables.read_catalog.Goals as goal
 
 pub returns-in_err-tables-clause-found : goal.returns-in_err-tables-clause-found
@@ -31,3 +32,12 @@ returns-clause-found g c =
     leads_on Is Is c.in_ok-tables.tables c.in_ok-tables.tables (Ok c.in_ok-catalog.catalog) (λ o. unit_under o c.args.unit.now) (λ tables. catalog_with tables (option_copied c.args.presets)) opened (after_presets (option_copied c.args.presets)) _ _ _ (rw c.as_str.ensures at c.in_ok-tables.ensures.found) refl
     (leads_on Is Is c.in_ok-presets.presets c.in_ok-presets.presets (Ok c.in_ok-catalog.catalog) (λ o. presets_asked o (option_copied c.args.presets)) (λ asked o. Ok (catalog_of c.in_ok-tables.tables asked)) (after_presets (option_copied c.args.presets)) (λ o. o) _ _ _ c.in_ok-presets.ensures.found refl
     (plain (Ok c.in_ok-catalog.catalog) (Ok (catalog_of c.in_ok-tables.tables c.in_ok-presets.presets)) _ _ refl (search rules)))
+
+pub returns-in_err-presets-clause-held : goal.returns-in_err-presets-clause-held
+returns-in_err-presets-clause-held g c = both_held _ _ _ c.in_ok-tables.ensures.held c.in_err-presets.ensures.held
+
+pub returns-in_err-catalog-clause-held : goal.returns-in_err-catalog-clause-held
+returns-in_err-catalog-clause-held g c = both_held _ _ _ c.in_ok-tables.ensures.held c.in_ok-presets.ensures.held
+
+pub returns-clause-held : goal.returns-clause-held
+returns-clause-held g c = both_held _ _ _ c.in_ok-tables.ensures.held c.in_ok-presets.ensures.held

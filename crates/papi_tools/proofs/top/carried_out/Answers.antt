@@ -1,9 +1,11 @@
+use Rattle.std.proofs.Common.{refl}
 use Rattle.papi_tools.specs.PresetListing.{avail_verdict}
 use Rattle.papi_tools.specs.NativeListing.{native_avail_verdict}
 use Rattle.papi_tools.specs.Decoding.{decode_verdict}
 use Rattle.papi_tools.specs.Choosing.{chooser_verdict}
 use Rattle.papi_tools.specs.Encoding.{encode_verdict}
 use Rattle.papi_tools.specs.RegionCounts.{regions_verdict}
+use Rattle.papi_tools.proofs.HoldingLemmas.{same_held}
 use Rattle.papi_tools.proofs.SettlingLemmas.{text_shows}
 use Rattle.papi_tools.proofs.StepLemmas.{quiet_tells}
 use Rattle.papi_tools.proofs.top.carried_out.Goals as goal
@@ -34,3 +36,6 @@ returns-in-Profil-clause-tells g c = rw c.in-Profil.is c.profile.ensures.tells
 
 pub returns-in-Soak-clause-tells : goal.returns-in-Soak-clause-tells
 returns-in-Soak-clause-tells g c = rw c.in-Soak.is (c.soak.ensures.tells _ _ _)
+
+pub returns-in-Soak-clause-held : goal.returns-in-Soak-clause-held
+returns-in-Soak-clause-held g c = same_held _ _ refl

@@ -1,6 +1,7 @@
-use Rattle.std.proofs.Common.{map, string_bytes}
+use Rattle.std.proofs.Common.{map, refl, string_bytes}
 use Rattle.papi_tools.specs.Verdict.{verdict_for}
 use Rattle.tool_words.specs.Form.{form}
+use Rattle.papi_tools.proofs.HoldingLemmas.{same_held}
 use Rattle.papi_tools.proofs.SettlingLemmas.{refused_as, refused_shows, settled_as, settled_shows, starved_as}
 use Rattle.papi_tools.proofs.top.said_of.Goals as goal
 
@@ -21,3 +22,9 @@ returns-in-Err-BadWords-clause-shows g c = refused_shows _ c.refused.result _ _ 
 
 pub returns-in-Err-Memory-clause-said : goal.returns-in-Err-Memory-clause-said
 returns-in-Err-Memory-clause-said g c = starved_as _ (λ o. verdict_for o (form (map string_bytes c.args.words.now.items))) _ _ _ _
+
+pub returns-in-Err-BadWords-clause-held : goal.returns-in-Err-BadWords-clause-held
+returns-in-Err-BadWords-clause-held g c = same_held _ _ refl
+
+pub returns-in-Err-Memory-clause-held : goal.returns-in-Err-Memory-clause-held
+returns-in-Err-Memory-clause-held g c = same_held _ _ refl
