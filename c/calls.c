@@ -1,40 +1,9 @@
 /* The calls of each thread: where the outermost one enters, and where it leaves. */
 #include "internal.h"
 
+#include <unwind.h>
+
 _Thread_local kl_outside kl_calls;
-
-static int may_start_or_stop(int number) {
-    switch (number) {
-    case KL_PAPI_start:
-    case KL_PAPI_stop:
-    case KL_PAPI_library_init:
-    case KL_PAPI_shutdown:
-    case KL_PAPI_hl_region_begin:
-    case KL_PAPI_hl_region_end:
-    case KL_PAPI_hl_read:
-    case KL_PAPI_hl_stop:
-    case KL_PAPI_ipc:
-    case KL_PAPI_epc:
-    case KL_PAPI_flips_rate:
-    case KL_PAPI_flops_rate:
-    case KL_PAPI_rate_stop: return 1;
-    default: return 0;
-    }
-}
-
-/* The outermost call is over, in a program that runs under the tool. */
-void kl_call_leaves(void) { kl_live_leaves(may_start_or_stop(kl_calls.number)); }
-
-static void enter(int number) {
-    kl_calls.depth = 1;
-    kl_calls.number = number;
-    if (kl_is_live()) kl_live_enters();
-}
-
-static void leave(void) {
-    kl_calls.depth = 0;
-    if (kl_is_live()) kl_call_leaves();
-}
 
 void kl_change_enters(void) {
     if (kl_calls.changing++ == 0) kl_change_begins();
@@ -44,27 +13,77 @@ void kl_change_leaves(void) {
     if (--kl_calls.changing == 0) kl_change_ends();
 }
 
-/* Whether the call is one that another function of the library makes. */
-int kl_is_nested(void) { return kl_calls.depth > 1; }
+/* The outermost call is over, in a program that runs under the tool. */
+void kl_call_leaves(void) {
+    const int may_start_or_stop = kl_calls.starts;
+    kl_calls.starts = 0;
+    kl_live_leaves(may_start_or_stop);
+}
+
+/* -- a call that was left by a jump -- */
+
+/* Whether the place is one of the library's code: each is if that is not known. */
+static int is_own(uintptr_t place) { return !kl_first_byte || place - (uintptr_t)kl_first_byte < (size_t)(kl_end_byte - kl_first_byte); }
+
+typedef struct { uintptr_t begins, end, place; int is_past, is_found; } search;
+
+/* A function of the library whose part of the stack ends there, above the one that begins. */
+static _Unwind_Reason_Code look(struct _Unwind_Context *frame, void *data) {
+    search *s = data;
+    const uintptr_t end = _Unwind_GetCFA(frame);
+    s->is_found = s->is_past && end == s->end && is_own(s->place);
+    s->is_past |= end == s->begins;
+    s->place = _Unwind_GetIP(frame);
+    return s->is_found ? _URC_END_OF_STACK : _URC_NO_REASON;
+}
+
+/* The way up the stack ends at the place 0, or before at a function without unwind tables: a call that may stand above that goes on. */
+static int goes_on(const void *end, const void *begins) {
+    search s = { (uintptr_t)begins, (uintptr_t)end, 0, 0, 0 };
+    _Unwind_Backtrace(look, &s);
+    return s.is_found || (s.place && ((uintptr_t)end > (uintptr_t)begins || kl_on_another_stack()));
+}
+
+/* A call that the program makes meanwhile is that of a signal's handler, or the one before was left. */
+static __attribute__((noinline)) int forget_if_left(const void *end) {
+    if (goes_on(kl_calls.end, end)) return 0;
+    const kl_outside left = kl_calls, none = { 0 };
+    kl_calls = none;
+    kl_signals_were_left(kl_known());
+    if (left.uncancelled) pthread_setcancelstate(left.cancelled_before, NULL);
+    return 1;
+}
+
+/* A function of the library that another one calls stands below it. */
+int kl_is_left(const void *end, const void *returns_to) {
+    return (uintptr_t)end < (uintptr_t)kl_calls.end && is_own((uintptr_t)returns_to) ? 0 : forget_if_left(end);
+}
+
+/* -- a call that goes on after a function of the user -- */
 
 kl_outside kl_user_begins(void) {
-    kl_outside before = kl_calls;
-    if (before.changing) kl_change_ends();
-    kl_calls.changing = kl_calls.interrupting = 0;
-    if (before.depth) leave();
+    if (kl_calls.changing) kl_change_ends();
+    const kl_outside before = kl_calls, outermost = { .end = before.end };
+    kl_calls = outermost;
+    if (before.uncancelled) pthread_setcancelstate(before.cancelled_before, NULL);
+    if (before.end && kl_is_live()) kl_live_leaves(before.starts);
+    kl_calls.end = NULL;
     return before;
 }
 
 void kl_user_ends(kl_outside before) {
-    if (before.depth) enter(before.number);
+    kl_calls.end = before.end;
+    if (before.end && kl_is_live()) kl_live_enters();
     kl_calls = before;
+    if (before.uncancelled) pthread_setcancelstate(PTHREAD_CANCEL_DISABLE, &kl_calls.cancelled_before);
     if (before.changing) kl_change_begins();
 }
 
-/* The tool has stopped the thread, which is none of its calls. */
-void kl_stopped_begins(void) {
-    kl_calls.depth = 1;
-    kl_calls.number = KL_PAPI_read;
+/* The tool has stopped the thread, which may be in a handler of a signal that interrupted a call. */
+kl_outside kl_stopped_begins(const void *end) {
+    const kl_outside before = kl_calls, stopped = { .end = end };
+    kl_calls = stopped;
+    return before;
 }
 
-void kl_stopped_ends(void) { kl_calls.depth = 0; }
+void kl_stopped_ends(kl_outside before) { kl_calls = before; }

@@ -1,4 +1,4 @@
-/* How each function of papi.h begins and answers, and the marks of its call. */
+/* How each function of papi.h begins and answers. */
 #ifndef KL_CALLS_H
 #define KL_CALLS_H
 
@@ -7,21 +7,32 @@
 
 #include <stdbool.h>
 
-/* The number of each function. */
-#define KL_NUMBER(name) KL_##name,
-enum { KL_FUNCTIONS(KL_NUMBER) KL_FUNCTION_COUNT };
+/* What each function does, by its name. */
+#define KL_DEED(name, does) KL_##name = (does),
+enum { KL_FUNCTIONS(KL_DEED) };
 
 /* Begins each function of papi.h: the thread's outermost call enters, and leaves when the function ends. */
-#define CALL(name) \
-    int call_ __attribute__((cleanup(kl_call_ends), unused)) = kl_call_begins(KL_##name)
+#define CALL(name) const int call_ __attribute__((cleanup(kl_call_ends), unused)) = kl_call_begins(KL_##name)
 
-/* calls.c: how deep the calling thread is in calls of the library, and the outermost one. Of the calls that go on, `changing` are those of functions that neither
- * count nor tell the time: one that counts and begins in such a function is that of a signal's handler, and is `interrupting`. Between a function's begin and the
- * tool's notice of it nothing but the library's own instructions is run: no call of another library looks this up. */
-typedef struct { int depth, number, changing, interrupting; } kl_outside;
+/* Where the part of the stack ends that the function has into which this is inlined, and what is rarely so. */
+#define KL_CALL_END __builtin_dwarf_cfa()
+#define KL_RARELY(condition) __builtin_expect(!!(condition), 0)
+
+/* calls.c: the calls of the calling thread that go on. Of the outermost one the end of its part of the stack is kept, NULL if there is none: a handler of a signal may
+ * jump out of it. Of those that go on, `changing` are of functions that change something: one that counts and begins in such a function is that of a signal's handler,
+ * and is `interrupting`. Between a function's begin and the tool's notice of it nothing but the library's own instructions is run. */
+typedef struct {
+    const void *end;
+    int starts; /* one of them may have started or stopped a set */
+    int changing, interrupting;
+    int uncancelled, cancelled_before; /* how often cancellation is put off, and how it was before */
+} kl_outside;
 extern _Thread_local kl_outside kl_calls __attribute__((tls_model("initial-exec"), visibility("hidden")));
 static inline int kl_interrupts(void) { return kl_calls.interrupting > 0; }
-static inline int kl_is_changing(void) { return kl_calls.changing > 0; }
+
+/* The library's own code, by the section that c/build gives it. */
+extern const char kl_first_byte[] __asm__("__start_kistalub_code") __attribute__((weak, visibility("hidden")));
+extern const char kl_end_byte[] __asm__("__stop_kistalub_code") __attribute__((weak, visibility("hidden")));
 
 /* live.c: whether the program runs under the tool that counts it. Then the outermost call enters, and leaves. A thread's part opens with its library. The cycles are
  * the calling thread's, or those of all threads. */
@@ -33,65 +44,43 @@ void kl_live_enters(void);
 void kl_live_leaves(int may_start_or_stop);
 uint64_t kl_live_cycles(int of_all);
 
-/* What handlers of signals may call, what makes such calls itself, and what waits. All other functions change what these look at. */
-static inline __attribute__((always_inline)) int kl_changes(int number) {
-    switch (number) {
-    case KL_PAPI_read:
-    case KL_PAPI_read_ts:
-    case KL_PAPI_accum:
-    case KL_PAPI_stop:
-    case KL_PAPI_reset:
-    case KL_PAPI_start:
-    case KL_PAPI_get_real_cyc:
-    case KL_PAPI_get_real_nsec:
-    case KL_PAPI_get_real_usec:
-    case KL_PAPI_get_virt_cyc:
-    case KL_PAPI_get_virt_nsec:
-    case KL_PAPI_get_virt_usec:
-    case KL_PAPI_hl_region_begin:
-    case KL_PAPI_hl_region_end:
-    case KL_PAPI_hl_read:
-    case KL_PAPI_hl_stop:
-    case KL_PAPI_ipc:
-    case KL_PAPI_epc:
-    case KL_PAPI_flips_rate:
-    case KL_PAPI_flops_rate:
-    case KL_PAPI_rate_stop:
-    case KL_PAPI_library_init:
-    case KL_PAPI_lock:
-    case KL_PAPI_unlock: return 0;
-    default: return 1;
-    }
-}
-
 void kl_call_leaves(void);
 void kl_change_enters(void);
 void kl_change_leaves(void);
+/* Whether the outermost call was left by a jump. Then nothing of it is kept. */
+int kl_is_left(const void *end, const void *returns_to);
 
-/* Inlined, the function is known where it is compiled: one that counts looks at a word, and calls nothing. */
-static inline __attribute__((always_inline)) int kl_call_begins(int number) {
-    if (kl_calls.depth++ == 0) {
-        kl_calls.number = number;
-        if (kl_is_live()) kl_live_enters();
+/* Inlined, what the function does is known where it is compiled: one that counts looks at a word, and calls nothing. */
+static inline __attribute__((always_inline)) int kl_call_begins(int does) {
+    if (does & KL_MAY_START) kl_calls.starts = 1;
+    if (KL_RARELY(kl_calls.end) && !kl_is_left(KL_CALL_END, __builtin_return_address(0))) {
+        if (!(does & KL_DOES_CHANGE) && kl_calls.changing) kl_calls.interrupting++;
+    } else {
+        kl_calls.end = KL_CALL_END;
+        if (KL_RARELY(kl_is_live())) kl_live_enters();
     }
-    if (kl_changes(number)) kl_change_enters();
-    else if (kl_calls.changing) kl_calls.interrupting++;
-    return number;
+    if (does & KL_DOES_CHANGE) kl_change_enters();
+    return does;
 }
 
-static inline __attribute__((always_inline)) void kl_call_ends(const int *number) {
-    if (kl_calls.changing) {
-        if (kl_changes(*number)) kl_change_leaves();
-        else kl_calls.interrupting--;
+/* The call goes on until the tool knows that it is over: a handler that interrupts that is none of the program's own instructions. */
+static inline __attribute__((always_inline)) void kl_call_ends(const int *does) {
+    if (*does & KL_DOES_CHANGE) kl_change_leaves();
+    if (KL_RARELY(kl_calls.end != KL_CALL_END)) {
+        if (!(*does & KL_DOES_CHANGE) && kl_calls.changing) kl_calls.interrupting--;
+        return;
     }
-    if (--kl_calls.depth == 0 && kl_is_live()) kl_call_leaves();
+    if (KL_RARELY(kl_is_live())) kl_call_leaves();
+    kl_calls.end = NULL;
 }
 
-/* Ends each function of papi.h that answers a code: one below 0 is the thread's last error, and the error handler is told of it. A function that is
- * not of papi.h never does: the handler is the user's, and is called once a call and under no lock. */
+/* Ends each function of papi.h that answers a code: one below 0 is the thread's last error, and the error handler is told of it. One that another function of the
+ * library calls does not, nor one that is not of papi.h: the handler is the user's, and is called once a call and under no lock. */
 #define RETURN(code) return kl_answer(code)
 int kl_refuse(int code);
-static inline int kl_answer(int code) { return code >= PAPI_OK ? code : kl_refuse(code); }
+static inline __attribute__((always_inline)) int kl_answer(int code) {
+    return KL_RARELY(code < PAPI_OK) && kl_calls.end == KL_CALL_END ? kl_refuse(code) : code;
+}
 
 /* The thread's state, or the function of papi.h ends with the code why there is none. */
 #define HERE(t) \
@@ -103,9 +92,8 @@ static inline int kl_answer(int code) { return code >= PAPI_OK ? code : kl_refus
  * library too. */
 kl_outside kl_user_begins(void);
 void kl_user_ends(kl_outside before);
-int kl_is_nested(void);
-void kl_stopped_begins(void);
-void kl_stopped_ends(void);
+kl_outside kl_stopped_begins(const void *end);
+void kl_stopped_ends(kl_outside before);
 
 /* errors.c */
 int kl_get_debug(PAPI_debug_option_t *debug);

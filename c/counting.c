@@ -10,7 +10,9 @@ static int run(thread_state *t, uint32_t n, uint32_t *consumed) {
     kistalub_fault fault = { 0, 0 };
     uint64_t told = 0;
     if (!kl_core_begins(t)) return PAPI_OK;
+    kl_core_changes(t);
     int code = kistalub_run(&t->library, t->is_watched && !kl_is_live() ? 1 : n, consumed, passings, MOST_EVENTS, &told, &fault);
+    kl_core_rests(t);
     t->happened += *consumed;
     kl_core_ends(t);
     if (code == PAPI_ESYS) kl_say_fault(t->number, &fault);
@@ -34,14 +36,16 @@ int kl_go(thread_state *t, uint32_t n, uint32_t *went) {
     return ended == PAPI_OK ? code : ended;
 }
 
+/* Nothing happens to a thread that has ended, nor in a handler of a signal that interrupted a function that changes something. */
 int kistalub_go(uint32_t n, uint32_t *went) {
+    CALL(kistalub_go);
     uint32_t here_went = 0;
     int code;
     if (!went) went = &here_went;
     *went = 0;
-    if (kl_is_changing()) return PAPI_OK; /* in a handler of a signal */
+    if (kl_interrupts()) return PAPI_OK;
     thread_state *t = kl_here(&code);
-    return t ? kl_go(t, n, went) : code;
+    return t && !t->has_ended ? kl_go(t, n, went) : code;
 }
 
 int kl_goes_on(thread_state *t) {
@@ -92,7 +96,9 @@ static inline __attribute__((always_inline)) int ask(thread_state *owner, uint32
     if (set >= MOST_SETS) return PAPI_ENOEVST;
     kl_set *s = owner->sets[set];
     if (!kl_core_begins(owner)) return call_later(owner, s, set, what, values, count);
+    if (what != TO_READ) kl_core_changes(owner);
     int code = call_core(&owner->library, set, what, values, count);
+    if (what != TO_READ) kl_core_rests(owner);
     if (code == PAPI_OK) note(owner, s, set, what, values, *count);
     kl_core_ends(owner);
     return code;
@@ -102,10 +108,11 @@ static int is_after_step(asked what) { return what != TO_START && what != TO_RES
 
 /* Asks it of a set that is not the thread's own: of one of a thread that has ended, to which nothing happens any more, or of none. */
 static __attribute__((noinline)) int ask_elsewhere(thread_state *t, int set, asked what, int64_t *values, uint32_t *count) {
-    thread_state *owner = what == TO_START ? t : kl_owner_of(t, set);
-    int code = owner == t && is_after_step(what) ? kl_goes_on(t) : PAPI_OK;
+    thread_state *owner = kl_owner_of(t, set);
+    int code = owner == t && !t->has_ended && is_after_step(what) ? kl_goes_on(t) : PAPI_OK;
+    if (owner != t && what == TO_START) code = PAPI_ENOEVST;
     if (code == PAPI_OK) code = ask(owner, kl_set_number(owner, set), what, values, count);
-    if (what != TO_START) kl_let_owner_go(owner);
+    kl_let_owner_go(owner);
     return code;
 }
 
@@ -146,6 +153,11 @@ int PAPI_reset(int set) {
 }
 
 _Static_assert(sizeof(long long) == sizeof(int64_t), "the library writes a program's values where they belong");
+
+int kl_read(int set, long long *values) {
+    uint32_t count;
+    return ask_here(set, TO_READ, (int64_t *)values, &count);
+}
 
 int PAPI_read(int set, long long *values) {
     CALL(PAPI_read);

@@ -65,7 +65,7 @@ static int call_handler(PAPI_debug_handler_t given, int code) {
 }
 
 int kl_refuse(int code) {
-    if (!message_of(code) || kl_is_nested()) return code;
+    if (!message_of(code)) return code;
     last_error = code;
     PAPI_debug_handler_t given = atomic_load(&debugging.handler);
     return given ? call_handler(given, code) : own_handler(code);

@@ -7,8 +7,19 @@
 
 /* What regions count is chosen once, under kl_region_lock, and stays. The rest is under the lock. */
 static counted_events counted;
-static struct { region_thread *threads; int is_begun, has_failed; } regions;
+static struct { region_thread *threads; int is_begun; atomic_int has_failed; } regions;
 static _Thread_local region_thread *own;
+
+/* No handler of a signal jumps out under the lock. */
+static void lock_regions(void) {
+    kl_change_enters();
+    pthread_mutex_lock(&kl_region_lock);
+}
+
+static void unlock_regions(void) {
+    pthread_mutex_unlock(&kl_region_lock);
+    kl_change_leaves();
+}
 
 static void free_thread(region_thread *thread) {
     while (thread->first) {
@@ -22,9 +33,8 @@ static void free_thread(region_thread *thread) {
 
 /* The regions of threads that still run stay: these may make calls until the last moment. */
 static void end_of_process(void) {
-    pthread_mutex_lock(&kl_region_lock);
-    if (!regions.has_failed) kl_write_regions(&counted, regions.threads);
-    regions.has_failed = 1;
+    lock_regions();
+    if (!atomic_exchange(&regions.has_failed, 1)) kl_write_regions(&counted, regions.threads);
     for (region_thread **at = &regions.threads; *at;) {
         region_thread *thread = *at;
         if (!thread->has_ended && thread != own) {
@@ -37,12 +47,12 @@ static void end_of_process(void) {
     own = NULL;
     free(counted.folder);
     counted.folder = NULL;
-    pthread_mutex_unlock(&kl_region_lock);
+    unlock_regions();
 }
 
 /* The first call in the process chooses the events. Under the lock. */
 static int begin_regions(void) {
-    if (regions.has_failed) return PAPI_EMISC;
+    if (atomic_load(&regions.has_failed)) return PAPI_EMISC;
     if (regions.is_begun) return PAPI_OK;
     int code = kl_choose_region_events(&counted);
     if (code == PAPI_OK) code = kl_find_region_folder(&counted);
@@ -51,12 +61,18 @@ static int begin_regions(void) {
     return code;
 }
 
+static void forget_sets(region_thread *thread) {
+    for (int i = 0; i < MOST_GROUPS; i++) thread->sets[i] = PAPI_NULL;
+    thread->set_count = thread->runs = 0;
+}
+
 /* What the calling thread has, which is new at its first region. Under the lock. */
 static int begin_thread(uint32_t number) {
     if (own) return PAPI_OK;
     region_thread *thread = calloc(1, sizeof *thread), **at = &regions.threads;
     if (!thread) return PAPI_ENOMEM;
     thread->number = number;
+    forget_sets(thread);
     while (*at && (*at)->number <= number) at = &(*at)->next;
     thread->next = *at;
     *at = own = thread;
@@ -67,47 +83,58 @@ static int begin_thread(uint32_t number) {
 static void take_library(unsigned generation) {
     if (own->generation == generation) return;
     own->generation = generation;
-    own->set_count = own->runs = own->depth = 0;
+    own->depth = 0;
+    forget_sets(own);
 }
 
 static int has_sets(void) { return own && own->set_count && own->generation == atomic_load(&kl_generation); }
 
-/* Ends the sets of the calling thread, so that it can count otherwise. */
-static void drop_sets(void) {
+static void drop_set(int *set) {
     long long values[MOST_VALUES];
-    for (int i = 0; has_sets() && i < own->set_count; i++) {
-        PAPI_stop(own->sets[i], values);
-        PAPI_cleanup_eventset(own->sets[i]);
-        PAPI_destroy_eventset(&own->sets[i]);
-    }
-    if (own) own->set_count = own->runs = 0;
+    if (*set == PAPI_NULL) return;
+    PAPI_stop(*set, values);
+    PAPI_cleanup_eventset(*set);
+    PAPI_destroy_eventset(set);
 }
 
-void kl_regions_end(uint32_t number) {
+/* Ends the sets of the calling thread, so that it can count otherwise: also one that was being made. */
+static void drop_sets(void) {
+    if (!own) return;
+    for (int i = 0; i < MOST_GROUPS && own->generation == atomic_load(&kl_generation); i++) drop_set(&own->sets[i]);
+    if (own) forget_sets(own);
+}
+
+void kl_regions_end(void) {
     CALL(PAPI_hl_stop);
-    if (!own || own->number != number) return;
+    if (!own) return;
     drop_sets();
-    pthread_mutex_lock(&kl_region_lock);
+    lock_regions();
     own->has_ended = 1;
     own = NULL;
-    pthread_mutex_unlock(&kl_region_lock);
+    unlock_regions();
 }
 
-/* The sets of the calling thread, one for each group. An event has another code in another library. */
+/* The sets of the calling thread, one for each group. An event has another code in another library. A handler of a signal may have jumped out of this before. */
 static int make_sets(void) {
     for (int i = own->set_count; i < counted.group_count; i++) {
+        drop_set(&own->sets[i]);
         int code = kl_make_region_set(counted.groups[i].component, &own->sets[i]);
-        if (own->sets[i] != PAPI_NULL) own->set_count++;
         for (int e = 0; code == PAPI_OK && e < counted.event_count; e++)
             if (counted.events[e].group == i) code = PAPI_add_named_event(own->sets[i], counted.events[e].name);
         if (code != PAPI_OK) return code;
+        own->set_count = i + 1;
     }
     return PAPI_OK;
 }
 
+static int is_running(int set) {
+    int state = 0;
+    return PAPI_state(set, &state) == PAPI_OK && state & PAPI_RUNNING;
+}
+
 static int start_sets(void) {
     for (int i = 0; !own->runs && i < counted.group_count; i++) {
-        int code = PAPI_start(own->sets[i]);
+        int code = is_running(own->sets[i]) ? PAPI_OK : PAPI_start(own->sets[i]);
         if (code != PAPI_OK) return code;
     }
     own->runs = 1;
@@ -136,6 +163,7 @@ static void count(const region *r, const long long *now, long long *since) {
 
 /* A new region, inside the one that is open. Under the lock. */
 static int open_region(const char *name, const long long *now) {
+    if (own->depth == MOST_NESTED) return PAPI_ENOMEM;
     size_t values = (size_t)kl_value_count(&counted) * sizeof *now, length = strlen(name) + 1;
     region *r = malloc(sizeof *r + 2 * values + length);
     if (!r) return PAPI_ENOMEM;
@@ -173,17 +201,13 @@ static region *open_region_of(const char *name) {
 /* After a failure nothing more is counted or written. Each thread ends its sets at its next call. */
 static int fail(int code) {
     kl_region_say("Error: ", PAPI_strerror(code) ? PAPI_strerror(code) : "");
-    pthread_mutex_lock(&kl_region_lock);
-    regions.has_failed = 1;
-    pthread_mutex_unlock(&kl_region_lock);
+    atomic_store(&regions.has_failed, 1);
     drop_sets();
     return code;
 }
 
 static int has_failed(void) {
-    pthread_mutex_lock(&kl_region_lock);
-    int failed = regions.has_failed;
-    pthread_mutex_unlock(&kl_region_lock);
+    const int failed = atomic_load(&regions.has_failed);
     if (failed) drop_sets();
     return failed;
 }
@@ -195,10 +219,10 @@ static int prepare(void) {
     int code = kl_begin_library();
     thread_state *t = code == PAPI_OK ? kl_here(&code) : NULL;
     if (!t) return code;
-    pthread_mutex_lock(&kl_region_lock);
+    lock_regions();
     code = begin_regions();
     if (code == PAPI_OK) code = begin_thread(t->number);
-    pthread_mutex_unlock(&kl_region_lock);
+    unlock_regions();
     if (code == PAPI_OK) take_library(t->generation);
     if (code == PAPI_OK) code = make_sets();
     if (code == PAPI_OK) code = start_sets();
@@ -212,9 +236,9 @@ static int begin_region(const char *name) {
     if (code == PAPI_OK && own->depth == MOST_NESTED) code = PAPI_ENOMEM;
     if (code == PAPI_OK) code = read_values(now);
     if (code == PAPI_OK) {
-        pthread_mutex_lock(&kl_region_lock);
+        lock_regions();
         code = open_region(name, now);
-        pthread_mutex_unlock(&kl_region_lock);
+        unlock_regions();
     }
     return code == PAPI_OK ? PAPI_OK : fail(code);
 }
@@ -227,8 +251,10 @@ int PAPI_hl_region_begin(const char *name) {
     RETURN(code == PAPI_OK ? begin_region(name) : code);
 }
 
-/* Notes the values of the innermost region: those of a reading, or where it ends. Under the lock. */
-static int note_values(region *r, const long long *now, int ends) {
+/* Notes the values of the innermost region: those of a reading, or where it ends. A handler that was called meanwhile may have ended it. Under the lock. */
+static int note_values(const char *name, const long long *now, int ends) {
+    region *r = own ? open_region_of(name) : NULL;
+    if (!r) return ends ? PAPI_EINVAL : PAPI_OK;
     if (!ends) return add_reading(r, now);
     count(r, now, r->values + kl_value_count(&counted));
     own->depth--;
@@ -241,17 +267,16 @@ static int read_region(const char *name, int ends) {
     long long now[MOST_VALUES];
     if (!name) return PAPI_EINVAL;
     if (has_failed() || !own || !own->begun) return PAPI_EMISC;
-    region *r = open_region_of(name);
-    if (!r) {
+    if (!open_region_of(name)) {
         kl_region_say("Warning: no open region ", name);
         return ends ? fail(PAPI_EINVAL) : PAPI_OK;
     }
     int code = read_values(now);
     if (code != PAPI_OK) return fail(code);
-    pthread_mutex_lock(&kl_region_lock);
-    code = note_values(r, now, ends);
-    pthread_mutex_unlock(&kl_region_lock);
-    return code;
+    lock_regions();
+    code = note_values(name, now, ends);
+    unlock_regions();
+    return code == PAPI_EINVAL ? fail(code) : code;
 }
 
 int PAPI_hl_read(const char *name) {
@@ -274,7 +299,7 @@ int PAPI_hl_stop(void) {
     if (!kl_high_level_runs()) RETURN(PAPI_ENOEVNT);
     for (int i = 0; i < counted.group_count; i++) {
         int code = PAPI_stop(own->sets[i], values);
-        if (code != PAPI_OK) RETURN(code);
+        if (code != PAPI_OK && code != PAPI_ENOTRUN) RETURN(code);
     }
     own->runs = 0;
     return PAPI_OK;

@@ -10,14 +10,10 @@
 /* What the tool can't stop at is waited for by instructions, of which one makes at most so many occurrences. */
 #define MOST_AT_ONCE 512
 
-/* The library's own code, by the section that c/build gives it. */
-extern const char first_byte[] __asm__("__start_kistalub_code") __attribute__((weak, visibility("hidden")));
-extern const char end_byte[] __asm__("__stop_kistalub_code") __attribute__((weak, visibility("hidden")));
-
 int kl_runs_live;
 
 __attribute__((constructor)) static void begin(void) {
-    kl_runs_live = kl_ask(KL_HELLO, (uintptr_t)first_byte, (uintptr_t)end_byte, (uintptr_t)kl_live_stub) == KL_VERSION;
+    kl_runs_live = kl_ask(KL_HELLO, (uintptr_t)kl_first_byte, (uintptr_t)kl_end_byte, (uintptr_t)kl_live_stub) == KL_VERSION;
     if (kl_runs_live) kl_keep_begins();
 }
 
@@ -33,6 +29,7 @@ int kl_live_opens(thread_state *t) {
 void kl_live_closes(thread_state *t) {
     kl_keep_closes(t);
     free(t->live);
+    t->live = NULL;
 }
 
 /* The tool tells no hits of the first level: loads that miss it are told. */
@@ -47,25 +44,30 @@ uint64_t kl_live_cycles(int of_all) {
     return cycles[of_all ? 0 : 1];
 }
 
-/* What the thread did since its last call happens. In a handler of thresholds time stands. The thread's state may be gone then, if a handler ended the library. */
-static void catch_up(thread_state *t, uint64_t address) {
+/* Takes what the thread did since its last call. In a handler of thresholds time stands. A handler of a signal, or the tool, may have interrupted this. */
+static void take_new(thread_state *t, int stands) {
     live_thread *live = t->live;
-    kl_amounts now, amounts;
+    kl_amounts now;
+    if (!kl_core_begins(t)) return;
     take_counts(&now);
-    for (uint64_t left = live->wanted; left; left &= left - 1) {
+    for (uint64_t left = stands ? 0 : live->wanted; left; left &= left - 1) {
         int kind = __builtin_ctzll(left);
-        amounts.of[kind] = now.of[kind] - live->seen.of[kind];
+        live->left.of[kind] += now.of[kind] - live->seen.of[kind];
     }
     live->seen = now;
-    int stands = kl_in_handler(t);
     kl_keep_lines(t, !stands);
-    if (stands || !live->wanted) return;
-    int code = kl_happen(t, &amounts, live->wanted, address);
-    if (code == PAPI_OK || code == PAPI_ENOINIT) return;
-    for (uint64_t left = live->wanted; left; left &= left - 1) {
-        int kind = __builtin_ctzll(left);
-        live->seen.of[kind] -= amounts.of[kind];
-    }
+    kl_core_ends(t);
+}
+
+/* It happens. The thread's state may be gone then, if a handler ended the library. Nothing happens to a thread that has ended. */
+static void catch_up(uint64_t address) {
+    thread_state *t = kl_known();
+    if (!t || !t->live || t->has_ended) return;
+    const int stands = kl_in_handler(t);
+    kl_change_enters();
+    take_new(t, stands);
+    if (!stands && t->live->wanted) kl_happen(t, &t->live->left, t->live->wanted, address);
+    kl_change_leaves();
 }
 
 static int runs(thread_state *t, uint32_t set, uint32_t *bits) {
@@ -94,6 +96,8 @@ static void note_sets(thread_state *t) {
     }
     kl_ask(live->wanted ? KL_START : KL_STOP, 0, 0, 0);
     take_counts(&live->seen);
+    for (int kind = 0; kind < LINE_KINDS; kind++)
+        if (!(live->wanted & KL_BIT(kind))) live->left.of[kind] = 0;
 }
 
 static void shorten(uint64_t *period, uint64_t to) {
@@ -144,31 +148,35 @@ static int stops_anywhere(const thread_state *t) {
 
 /* The thread goes back to the program. */
 static void look_after(thread_state *t, int may_start_or_stop) {
-    if ((!may_start_or_stop && !stops_anywhere(t)) || !kl_core_begins(t)) return;
-    if (may_start_or_stop) note_sets(t);
-    if (stops_anywhere(t)) arm(t);
-    kl_core_ends(t);
+    if (!may_start_or_stop && !stops_anywhere(t)) return;
+    kl_change_enters();
+    if (kl_core_begins(t)) {
+        if (may_start_or_stop) note_sets(t);
+        if (stops_anywhere(t)) arm(t);
+        kl_core_ends(t);
+    }
+    kl_change_leaves();
+}
+
+static void look_after_all(int may_start_or_stop) {
+    thread_state *t = kl_known();
+    if (t && t->live && !t->has_ended) look_after(t, may_start_or_stop);
 }
 
 void kl_live_stops(uint64_t address) {
-    kl_stopped_begins();
-    thread_state *t = kl_known();
-    if (t && t->live) {
-        catch_up(t, address);
-        t = kl_known();
-        if (t && t->live) look_after(t, 0);
-    }
-    kl_stopped_ends();
+    const kl_outside before = kl_stopped_begins(__builtin_dwarf_cfa());
+    catch_up(address);
+    look_after_all(0);
+    kl_stopped_ends(before);
 }
 
 void kl_live_enters(void) {
     kl_ask(KL_ENTER, 0, 0, 0);
-    thread_state *t = kl_known();
-    if (t && t->live && t->live->wanted) catch_up(t, 0);
+    const thread_state *t = kl_known();
+    if (t && t->live && t->live->wanted) catch_up(0);
 }
 
 void kl_live_leaves(int may_start_or_stop) {
-    thread_state *t = kl_known();
-    if (t && t->live) look_after(t, may_start_or_stop);
+    look_after_all(may_start_or_stop);
     kl_ask(KL_LEAVE, 0, 0, 0);
 }

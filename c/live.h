@@ -14,7 +14,8 @@ typedef struct { uint64_t of[LINE_KINDS]; } kl_amounts;
 /* What a thread has of it. */
 typedef struct live_thread {
     line_codes codes;     /* of the lines, by the unit */
-    kl_amounts seen;      /* the thread's counts up to which all has happened */
+    kl_amounts seen;      /* the thread's counts up to which all has happened, but for what is left */
+    kl_amounts left;      /* of kinds that are wanted */
     uint64_t wanted;      /* the kinds that a running set counts */
     int is_in_turns;      /* a running set is multiplexed */
     int has_turn;         /* the tool stops the thread when its turn is over */
@@ -26,8 +27,8 @@ typedef struct live_thread {
     char lines[1 << 16];  /* room for lines on their way there */
 } live_thread;
 
-/* live_lines.c: of these kinds as many occurrences happen, at this address, and are taken off. Of several kinds they come in turn. PAPI_ENOINIT if a handler ended
- * the library: the thread's state may be gone then. */
+/* live_lines.c: of these kinds as many occurrences happen, at this address, and are taken off one piece after the other: a handler may jump out. Of several kinds they
+ * come in turn. PAPI_ENOINIT if a handler ended the library: the thread's state may be gone then. */
 int kl_happen(thread_state *t, kl_amounts *amounts, uint64_t kinds, uint64_t address);
 /* The codes that a unit's events have: Skylake's own, if its first component is the core of one. */
 line_codes kl_codes_of(kistalub *library);

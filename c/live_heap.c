@@ -15,7 +15,6 @@
 typedef struct head { size_t bits, bytes; } head;
 typedef struct spare { struct spare *next; } spare;
 
-static pthread_mutex_t lock = PTHREAD_MUTEX_INITIALIZER;
 static spare *spares[MOST_BITS + 1];
 static unsigned char *at, *end;
 
@@ -42,11 +41,11 @@ static void *cut(size_t bytes) {
 }
 
 static head *of_list(size_t bits) {
-    pthread_mutex_lock(&lock);
+    pthread_mutex_lock(&kl_heap_lock);
     spare *got = spares[bits];
     if (got) spares[bits] = got->next;
     else got = cut((size_t)1 << bits);
-    pthread_mutex_unlock(&lock);
+    pthread_mutex_unlock(&kl_heap_lock);
     return (head *)got;
 }
 
@@ -75,10 +74,10 @@ void kl_heap_free(void *block) {
         return;
     }
     spare *given = (spare *)h;
-    pthread_mutex_lock(&lock);
+    pthread_mutex_lock(&kl_heap_lock);
     given->next = spares[bits];
     spares[bits] = given;
-    pthread_mutex_unlock(&lock);
+    pthread_mutex_unlock(&kl_heap_lock);
 }
 
 void *kl_heap_realloc(void *block, size_t size) {

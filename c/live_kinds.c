@@ -11,8 +11,7 @@
 /* What is known of native events, by their names. */
 typedef struct known { struct known *next; uint64_t kinds; char name[]; } known;
 
-static pthread_mutex_t lock = PTHREAD_MUTEX_INITIALIZER;
-static known *first;
+static known *first; /* under kl_kinds_lock */
 
 /* What the next lines add to what the set counts; 1 if that can't be told. */
 static int64_t added(kistalub *h, uint32_t set, uint32_t lines, int64_t *before) {
@@ -65,11 +64,11 @@ static uint64_t ask_core(line_codes codes, const char *name) {
 /* What counts nothing is told when it is asked for first. */
 static uint64_t kinds_of_native(line_codes codes, const char *name) {
     uint64_t kinds;
-    pthread_mutex_lock(&lock);
+    pthread_mutex_lock(&kl_kinds_lock);
     for (const known *k = first; k; k = k->next)
         if (!strcmp(k->name, name)) {
             kinds = k->kinds;
-            pthread_mutex_unlock(&lock);
+            pthread_mutex_unlock(&kl_kinds_lock);
             return kinds;
         }
     kinds = ask_core(codes, name);
@@ -81,7 +80,7 @@ static uint64_t kinds_of_native(line_codes codes, const char *name) {
         strcpy(made->name, name);
         first = made;
     }
-    pthread_mutex_unlock(&lock);
+    pthread_mutex_unlock(&kl_kinds_lock);
     return kinds;
 }
 

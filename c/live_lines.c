@@ -119,19 +119,25 @@ static int end(thread_state *t) {
     return PAPI_OK;
 }
 
-/* The lines go to the thread's stream, and happen, with what an earlier handler that was jumped out of left there. They are good lines, so one is refused only for
- * its number. */
-static int feed(thread_state *t, const piece *p) {
+/* The next lines go to the thread's stream, and what they stand for is taken off. They are good lines, so one is refused only for its number. */
+static int feed(thread_state *t, piece *p, kl_amounts *amounts, turn *turns, int count, uint64_t most, uint64_t address) {
     kistalub_fault fault = { 0, 0 };
     live_thread *live = t->live;
     if (!kl_core_begins(t)) return PAPI_EISRUN;
-    int code = kistalub_feed(&t->library, (const unsigned char *)live->lines, p->used, &fault);
-    if (code == PAPI_OK) live->fed += p->lines;
+    kl_core_changes(t);
+    fill(live, p, amounts, turns, count, most, address);
+    int code = p->lines ? kistalub_feed(&t->library, (const unsigned char *)live->lines, p->used, &fault) : PAPI_OK;
+    kl_core_rests(t);
+    if (code == PAPI_OK) {
+        live->fed += p->lines;
+        for (int i = 0; i < count; i++) amounts->of[turns[i].kind] -= p->taken.of[turns[i].kind];
+    }
     kl_core_ends(t);
     return code == PAPI_EINVAL ? end(t) : code;
 }
 
-/* All that the stream has left happens. PAPI_ENOINIT if a handler ended the library: the thread's state may be gone. */
+/* All that the stream has left happens, with what an earlier handler that was jumped out of left there. PAPI_ENOINIT if a handler ended the library: the thread's
+ * state may be gone. */
 static int go_on(thread_state *t) {
     while (t->happened < t->live->fed) {
         uint32_t went = 0;
@@ -147,11 +153,8 @@ int kl_happen(thread_state *t, kl_amounts *amounts, uint64_t kinds, uint64_t add
     uint64_t most = 0;
     int code = PAPI_OK, count = take_turns(t->live->codes, amounts, kinds, address, turns, &most);
     while (code == PAPI_OK && count && !t->live->has_ended) {
-        fill(t->live, &p, amounts, turns, count, most, address);
-        if (!p.lines) break;
-        code = feed(t, &p);
-        if (code != PAPI_OK) break;
-        for (int i = 0; i < count; i++) amounts->of[turns[i].kind] -= p.taken.of[turns[i].kind];
+        code = feed(t, &p, amounts, turns, count, most, address);
+        if (code != PAPI_OK || !p.lines) break;
         code = go_on(t);
     }
     return code;

@@ -1,5 +1,7 @@
-/* The locks of all sources, and what a fork does with them. */
+/* The locks of all sources, what a fork does with them, and those of the program. */
 #include "internal.h"
+
+#include <semaphore.h>
 
 pthread_mutex_t kl_region_lock = PTHREAD_MUTEX_INITIALIZER;
 pthread_mutex_t kl_beginning = PTHREAD_MUTEX_INITIALIZER;
@@ -8,18 +10,13 @@ pthread_mutex_t kl_component_lock = PTHREAD_MUTEX_INITIALIZER;
 pthread_mutex_t kl_machine_lock = PTHREAD_MUTEX_INITIALIZER;
 pthread_mutex_t kl_asked_lock = PTHREAD_MUTEX_INITIALIZER;
 pthread_mutex_t kl_stream_lock = PTHREAD_MUTEX_INITIALIZER;
+pthread_mutex_t kl_kinds_lock = PTHREAD_MUTEX_INITIALIZER;
 pthread_mutex_t kl_lock = PTHREAD_MUTEX_INITIALIZER;
+pthread_mutex_t kl_heap_lock = PTHREAD_MUTEX_INITIALIZER;
 
-/* The program's locks. Any thread may unlock one, as in PAPI. */
-static struct { pthread_mutex_t guard; pthread_cond_t freed; int held; } locks[PAPI_NUM_LOCK] = {
-    { PTHREAD_MUTEX_INITIALIZER, PTHREAD_COND_INITIALIZER, 0 },
-    { PTHREAD_MUTEX_INITIALIZER, PTHREAD_COND_INITIALIZER, 0 },
-};
-
-/* The order of locks.h, and those that guard the program's locks after them. */
+/* The order of locks.h. */
 static pthread_mutex_t *const in_order[] = {
-    &kl_region_lock, &kl_beginning, &kl_ended_lock, &kl_component_lock, &kl_machine_lock, &kl_asked_lock, &kl_stream_lock, &kl_lock,
-    &locks[PAPI_USR1_LOCK].guard, &locks[PAPI_USR2_LOCK].guard,
+    &kl_region_lock, &kl_beginning, &kl_ended_lock, &kl_component_lock, &kl_machine_lock, &kl_asked_lock, &kl_stream_lock, &kl_kinds_lock, &kl_lock, &kl_heap_lock,
 };
 #define LOCKS (sizeof in_order / sizeof *in_order)
 
@@ -44,31 +41,39 @@ int kl_guard_forks(void (*child)(void)) {
 }
 
 int kl_no_cancellation(void) {
-    int before = PTHREAD_CANCEL_ENABLE;
-    pthread_setcancelstate(PTHREAD_CANCEL_DISABLE, &before);
-    return before;
+    if (kl_calls.uncancelled++ == 0) pthread_setcancelstate(PTHREAD_CANCEL_DISABLE, &kl_calls.cancelled_before);
+    return 0;
 }
 
-void kl_cancel_again(const int *before) { pthread_setcancelstate(*before, NULL); }
+void kl_cancel_again(const int *unused) {
+    (void)unused;
+    if (kl_calls.uncancelled == 1) pthread_setcancelstate(kl_calls.cancelled_before, NULL);
+    kl_calls.uncancelled--; /* afterwards: a handler of a signal may jump out in between */
+}
 
-/* In PAPI a thread that waits for a lock is not cancelled either. */
+/* The program's locks: semaphores of 0 or 1, so that any thread may unlock one, as in PAPI. A fork and a handler that jumps out leave nothing of a thread that waits
+ * for one. */
+static sem_t locks[PAPI_NUM_LOCK];
+
+__attribute__((constructor)) static void make_locks(void) {
+    for (int i = 0; i < PAPI_NUM_LOCK; i++) sem_init(&locks[i], 0, 1);
+}
+
+/* In PAPI a thread that waits for a lock is not cancelled either. What was unlocked twice is locked once. */
 int PAPI_lock(int lock) {
     CALL(PAPI_lock);
     NO_CANCELLATION;
     if (lock < 0 || lock >= PAPI_NUM_LOCK) RETURN(PAPI_EINVAL);
-    pthread_mutex_lock(&locks[lock].guard);
-    while (locks[lock].held) pthread_cond_wait(&locks[lock].freed, &locks[lock].guard);
-    locks[lock].held = 1;
-    pthread_mutex_unlock(&locks[lock].guard);
+    while (sem_wait(&locks[lock])) {}
+    while (!sem_trywait(&locks[lock])) {}
     return PAPI_OK;
 }
 
 int PAPI_unlock(int lock) {
     CALL(PAPI_unlock);
+    int is_free;
     if (lock < 0 || lock >= PAPI_NUM_LOCK) RETURN(PAPI_EINVAL);
-    pthread_mutex_lock(&locks[lock].guard);
-    locks[lock].held = 0;
-    pthread_cond_signal(&locks[lock].freed);
-    pthread_mutex_unlock(&locks[lock].guard);
+    sem_getvalue(&locks[lock], &is_free);
+    if (!is_free) sem_post(&locks[lock]);
     return PAPI_OK;
 }

@@ -19,7 +19,8 @@ bool kl_is_model_time(void);
 int kl_rate_runs(void);
 int kl_begin_library(void);
 int kl_high_level_runs(void);
-/* The regions of a thread that has ended are no longer touched but by the end of the process. */
-void kl_regions_end(uint32_t number);
+/* The thread ends: no set of a rate or of its regions is left. Its regions are no longer touched but by the end of the process. */
+void kl_rate_ends(void);
+void kl_regions_end(void);
 
 #endif

@@ -42,6 +42,7 @@ static void take_files(kl_files *made, int are_given) {
 static int is_begun_here(void) { return kl_is_open() && begun.process == getpid(); }
 
 int kistalub_init(const char *unit, const char *presets, const char *cpu, const char *streams) {
+    CALL(kistalub_init);
     NO_CANCELLATION;
     kl_files *files = NULL;
     if (!unit) return PAPI_EINVAL;

@@ -18,19 +18,27 @@ static void note_times(long long real, long long virt) {
     rate.virt = virt;
 }
 
-/* Takes what was counted from the set. */
+/* Takes what was counted from the set. A handler of a signal may jump out of this, and out of the others: the next rate begins with what is left of the set. */
 static int stop(long long *values) {
-    int code = PAPI_stop(rate.set, values);
     rate.kind = NOTHING;
+    int code = PAPI_stop(rate.set, values);
     PAPI_cleanup_eventset(rate.set);
     if (PAPI_destroy_eventset(&rate.set) != PAPI_OK) rate.set = PAPI_NULL;
     return code;
 }
 
+static void drop_rest(void) {
+    long long values[MOST_RATED];
+    if (rate.set != PAPI_NULL && rate.generation == atomic_load(&kl_generation)) stop(values);
+    rate.set = PAPI_NULL;
+}
+
 int PAPI_rate_stop(void) {
     CALL(PAPI_rate_stop);
     long long values[MOST_RATED];
-    RETURN(counted_kind() == NOTHING ? PAPI_ENOEVNT : stop(values));
+    if (counted_kind() != NOTHING) RETURN(stop(values));
+    drop_rest();
+    RETURN(PAPI_ENOEVNT);
 }
 
 /* Opens the library with support of threads, where the program has not. */
@@ -41,8 +49,8 @@ int kl_begin_library(void) {
 
 /* A new set with the events, which is started. */
 static int start(int kind, int *events, int number) {
+    drop_rest();
     rate.kind = NOTHING;
-    rate.set = PAPI_NULL;
     rate.generation = atomic_load(&kl_generation);
     int code = PAPI_create_eventset(&rate.set);
     for (int i = 0; code == PAPI_OK && i < number; i++) code = PAPI_add_event(rate.set, events[i]);
@@ -70,6 +78,7 @@ static int rated(int kind, int *events, int number, float *rtime, float *ptime, 
         if (counted_kind() != NOTHING) code = stop(dropped);
         return code == PAPI_OK ? start(kind, events, number) : code;
     }
+    rate.kind = NOTHING;
     code = PAPI_stop(rate.set, values);
     if (code == PAPI_OK) {
         long long real = PAPI_get_real_usec(), virt = PAPI_get_virt_usec();
@@ -79,7 +88,7 @@ static int rated(int kind, int *events, int number, float *rtime, float *ptime, 
         *gives = 1;
         code = PAPI_start(rate.set);
     }
-    if (code != PAPI_OK) rate.kind = NOTHING;
+    if (code == PAPI_OK) rate.kind = kind;
     return code;
 }
 
@@ -136,3 +145,8 @@ int PAPI_epc(int event, float *rtime, float *ptime, long long *ref, long long *c
 }
 
 int kl_rate_runs(void) { return counted_kind() != NOTHING; }
+
+void kl_rate_ends(void) {
+    CALL(PAPI_rate_stop);
+    drop_rest();
+}

@@ -190,7 +190,9 @@ static FILE *open_file(char *path, size_t room, const char *folder) {
         if (rank < 0 || next == 0) snprintf(path, room, "%s/rank_%06d.json", folder, rank < 0 ? next : rank);
         else snprintf(path, room, "%s/rank_%06d-%d.json", folder, rank, next + 1);
         int file = open(path, O_WRONLY | O_CREAT | O_EXCL | O_CLOEXEC, S_IRUSR | S_IWUSR | S_IRGRP | S_IROTH);
-        if (file >= 0) return fdopen(file, "w");
+        FILE *f = file >= 0 ? fdopen(file, "w") : NULL;
+        if (file >= 0 && !f) close(file);
+        if (file >= 0) return f;
         if (errno != EEXIST) return NULL;
     }
     return NULL;

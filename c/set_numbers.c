@@ -92,18 +92,22 @@ static thread_state *ended_owner(int set) {
     return owner;
 }
 
+/* A handler of a signal may have interrupted what holds the lock: it finds the thread's own sets alone. */
 thread_state *kl_owner_of(thread_state *t, int set) {
-    if (!t->has_ended && kl_set_number(t, set) != UINT32_MAX) return t;
+    if ((!t->has_ended && kl_set_number(t, set) != UINT32_MAX) || kl_interrupts()) return t;
+    kl_change_enters();
     pthread_mutex_lock(&kl_ended_lock);
     thread_state *owner = ended_owner(set);
     if (owner || t->has_ended) return owner ? owner : t;
     pthread_mutex_unlock(&kl_ended_lock);
+    kl_change_leaves();
     return t;
 }
 
 /* The library of a thread that has ended is closed with its last set. */
 void kl_let_owner_go(thread_state *owner) {
-    if (!owner->has_ended) return;
+    if (!owner->has_ended || kl_interrupts()) return;
     if (owner->set_count == 0) kl_close_library(owner);
     pthread_mutex_unlock(&kl_ended_lock);
+    kl_change_leaves();
 }

@@ -14,7 +14,7 @@
 
 /* Some handler was seen, or a call that interrupted another one. */
 static atomic_int is_met, has_handlers;
-static _Thread_local struct { int are_waiting, cancelled; sigset_t before; } change;
+static _Thread_local struct { int are_waiting; sigset_t before; } change;
 
 static int are_met(void) { return atomic_load_explicit(&has_handlers, memory_order_relaxed) | atomic_load_explicit(&is_met, memory_order_relaxed); }
 
@@ -35,11 +35,15 @@ static void note_others(sigset_t *others) {
 }
 
 /* The last signal is not looked at: in a program that runs under valgrind it has a handler of valgrind's. */
-static __attribute__((noinline)) void look(kl_signals *s) {
+void kl_look_for_handlers(void) {
     int found = 0;
-    if (!s->looks) note_others(&s->others);
     for (int number = 1; number < SIGRTMAX && !found; number++) found = is_handled(number);
     if (atomic_load_explicit(&has_handlers, memory_order_relaxed) != found) atomic_store_explicit(&has_handlers, found, memory_order_relaxed); /* others look at it */
+}
+
+static __attribute__((noinline)) void look(kl_signals *s) {
+    if (!s->looks) note_others(&s->others);
+    kl_look_for_handlers();
     s->until_look = s->looks < FIRST_LOOKS ? CALLS_BETWEEN_FIRST : CALLS_BETWEEN;
     s->looks++;
 }
@@ -61,10 +65,12 @@ static __attribute__((noinline)) void do_asked(thread_state *t) {
     uint32_t count;
     const uint64_t to_stop = t->signals.to_stop, to_reset = t->signals.to_reset;
     t->signals.to_stop = t->signals.to_reset = 0;
+    kl_core_changes(t);
     for (uint32_t set = 0; set < MOST_SETS; set++) {
         if (to_stop >> set & 1) kistalub_stop(&t->library, set, values, MOST_EVENTS, &count);
         if (to_reset >> set & 1 && kistalub_reset(&t->library, set) == PAPI_OK) memset(t->sets[set]->last, 0, sizeof t->sets[set]->last);
     }
+    kl_core_rests(t);
 }
 
 int kl_core_begins(thread_state *t) {
@@ -75,7 +81,7 @@ int kl_core_begins(thread_state *t) {
     }
     if (s->until_look-- == 0) look(s);
     if (are_met()) wait_for_end(s);
-    s->depth = 1;
+    s->depth = KL_CORE_READS;
     atomic_signal_fence(memory_order_seq_cst);
     if (s->to_stop | s->to_reset) do_asked(t);
     return 1;
@@ -97,7 +103,7 @@ void kl_core_ends(thread_state *t) {
 /* What a thread that is cancelled left undone would look like an interrupted function in its destructors, so it is not. */
 void kl_change_begins(void) {
     sigset_t others;
-    change.cancelled = kl_no_cancellation();
+    kl_no_cancellation();
     if (!are_met()) return;
     note_others(&others);
     pthread_sigmask(SIG_SETMASK, &others, &change.before);
@@ -108,9 +114,21 @@ void kl_change_begins(void) {
 void kl_change_ends(void) {
     thread_state *t = atomic_load_explicit(&is_met, memory_order_relaxed) ? kl_known() : NULL;
     if (t && (t->signals.to_stop | t->signals.to_reset)) do_now(t);
-    if (change.are_waiting) {
-        change.are_waiting = 0;
-        pthread_sigmask(SIG_SETMASK, &change.before, NULL);
-    }
-    kl_cancel_again(&change.cancelled);
+    kl_cancel_again(NULL);
+    if (!change.are_waiting) return;
+    change.are_waiting = 0;
+    const sigset_t before = change.before;
+    pthread_sigmask(SIG_SETMASK, &before, NULL);
+}
+
+/* A library that was being read is as it was. Of one that was being changed nothing is known: it is closed by nobody. From now on all signals wait. */
+void kl_signals_were_left(thread_state *t) {
+    atomic_store_explicit(&is_met, 1, memory_order_relaxed);
+    change.are_waiting = 0;
+    if (!t || !t->signals.depth) return;
+    const kistalub shut = KISTALUB_SHUT;
+    t->is_lost = t->signals.depth == KL_CORE_CHANGES;
+    t->library = t->is_lost ? shut : t->opened;
+    if (t->is_lost) t->is_opened = 0;
+    t->signals.depth = t->signals.are_waiting = 0;
 }

@@ -175,6 +175,7 @@ int kl_judge_events(thread_state *t, uint32_t set) {
     kl_files *files = t->heads.length ? kl_hold_files() : NULL;
     if (!files) return PAPI_OK;
     if (kl_core_begins(t)) {
+        kl_core_changes(t);
         if (kistalub_list_events(&t->library, set, codes, MOST_EVENTS, &count) != PAPI_OK) count = 0;
         for (uint64_t i = 0; answer == PAPI_OK && i < count && i < MOST_EVENTS; i++) answer = judge_event(t, files, codes[i]);
         kl_core_ends(t);

@@ -62,8 +62,9 @@ typedef struct { const void *end, *returns_to; int is_handler; } kl_hold;
 #define MOST_HOLDS 16
 
 /* How signals meet the calls of a thread: signals.c. */
+enum { KL_CORE_READS = 1, KL_CORE_CHANGES };
 typedef struct {
-    int depth;               /* calls of the proved library that go on: more than one only if a signal interrupted one */
+    int depth;               /* 0, or the call of the proved library that goes on */
     unsigned until_look;     /* calls until it is looked for handlers of signals again */
     int looks;
     int are_waiting;
@@ -77,7 +78,8 @@ typedef struct thread_state {
     unsigned generation;       /* of the library that it is a part of */
     uint32_t number;
     int is_opened, is_refused; /* its stream was read, or can't be */
-    kistalub library;
+    int is_lost;               /* a jump left the proved library in the midst of a change */
+    kistalub library, opened;  /* as it is, and as it was opened */
     PAPI_thread_id_t id;
     int has_id, is_registered, has_ended;
     int end_rounds; /* of the destructors at the thread's end */
@@ -125,6 +127,8 @@ int kl_hold_on(thread_state *t, const kl_hold *hold);
 int kl_let_go(thread_state *t, int place);
 /* Whether a call goes on still, or was left by a jump or an exception. */
 int kl_goes_on_still(const kl_hold *hold);
+/* Whether the thread is in the handler of a signal that has a stack of its own, which may lie above that of the thread. */
+int kl_on_another_stack(void);
 void kl_forget_jumps(thread_state *t);
 /* Whether a handler of the thread runs: time stands. */
 int kl_in_handler(thread_state *t);

@@ -13,7 +13,7 @@ thread_state *kl_first;
 /* The thread's state, with the generation that it is of: a state that has ended may be closed by another thread when the library ends. Each call looks it up, and
  * calls nothing for that. */
 static _Thread_local struct { thread_state *state; unsigned generation; int is_past; } own __attribute__((tls_model("initial-exec")));
-static struct { pthread_key_t key; pthread_once_t once; int is_made; } at_end = { .once = PTHREAD_ONCE_INIT };
+static struct { _Atomic pthread_key_t key; atomic_int is_made; int are_forks_guarded; } at_end;
 static uint32_t next_number; /* under kl_lock */
 
 /* What a thread without sets has no more use for. */
@@ -78,7 +78,8 @@ static void thread_ends(void *state) {
     if (++t->end_rounds < END_ROUND && pthread_setspecific(at_end.key, t) == 0) return;
     own.is_past = 1;
     t->hold_count = 0; /* a handler may end the thread */
-    kl_regions_end(t->number);
+    kl_rate_ends();
+    kl_regions_end();
     if (!keep(t)) own.state = NULL;
 }
 
@@ -112,19 +113,20 @@ static void child_begins(void) {
         else *at = (*at)->next;
 }
 
-static void prepare(void) {
-    at_end.is_made = pthread_key_create(&at_end.key, thread_ends) == 0 && kl_guard_forks(child_begins) == PAPI_OK;
-}
-
 /* A shared library that is unloaded leaves no function of its own to be called. */
 __attribute__((destructor)) static void unload(void) {
-    if (at_end.is_made) pthread_key_delete(at_end.key);
-    at_end.is_made = 0;
+    if (atomic_exchange(&at_end.is_made, 0)) pthread_key_delete(at_end.key);
 }
 
+/* Under kl_beginning. A program that ends may begin the library once more after this. */
 int kl_prepare(void) {
-    pthread_once(&at_end.once, prepare);
-    return at_end.is_made ? PAPI_OK : PAPI_ENOMEM;
+    pthread_key_t key;
+    if (!at_end.are_forks_guarded) at_end.are_forks_guarded = kl_guard_forks(child_begins) == PAPI_OK;
+    if (!at_end.is_made && pthread_key_create(&key, thread_ends) == 0) {
+        at_end.key = key;
+        at_end.is_made = 1;
+    }
+    return at_end.are_forks_guarded && at_end.is_made ? PAPI_OK : PAPI_ENOMEM;
 }
 
 static int is_taken(uint32_t number) {
@@ -207,6 +209,7 @@ static int open_state(thread_state *t) {
     if (code == PAPI_OK) code = kl_live_opens(t);
     t->is_refused = code == PAPI_ESYS;
     if (code != PAPI_OK) return code;
+    t->opened = t->library;
     t->step = atomic_load(&kl_step);
     t->is_opened = 1;
     return PAPI_OK;
@@ -219,12 +222,21 @@ static int name_state(thread_state *t) {
 }
 
 /* A thread is listed before its stream is read. The function that gives its id may make calls, which then open the library. */
+static int enter_and_open(void) {
+    int code = kl_known() ? PAPI_OK : kl_enters(NULL, 0);
+    if (code == PAPI_OK && own.state->is_lost) code = PAPI_ECLOST;
+    if (code == PAPI_OK && !own.state->has_id) code = name_state(own.state);
+    return code == PAPI_OK && !own.state->is_opened ? open_state(own.state) : code;
+}
+
+/* A handler of a signal that interrupts this does not begin the thread again. */
 static __attribute__((noinline)) thread_state *begin_thread(int *code) {
-    NO_CANCELLATION;
-    if (kl_interrupts()) *code = PAPI_ENOINIT;
-    else if (!kl_known()) *code = kl_enters(NULL, 0);
-    if (*code == PAPI_OK && !own.state->has_id) *code = name_state(own.state);
-    if (*code == PAPI_OK && !own.state->is_opened) *code = open_state(own.state);
+    *code = PAPI_ENOINIT;
+    if (kl_interrupts()) return NULL;
+    if (kl_is_open()) kl_look_for_handlers();
+    kl_change_enters();
+    *code = enter_and_open();
+    kl_change_leaves();
     return *code == PAPI_OK ? own.state : NULL;
 }
 
@@ -235,6 +247,7 @@ thread_state *kl_here(int *code) {
 }
 
 int kistalub_thread(uint32_t number) {
+    CALL(kistalub_thread);
     const thread_state *t = kl_known();
     if (!kl_is_open()) return PAPI_ENOINIT;
     if (t) return t->number == number ? PAPI_OK : PAPI_EINVAL;

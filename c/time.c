@@ -94,7 +94,7 @@ CLOCK(PAPI_get_virt_usec, nanoseconds(CLOCK_THREAD_CPUTIME_ID) / 1000)
 int PAPI_read_ts(int set, long long *values, long long *cyc) {
     CALL(PAPI_read_ts);
     if (!values || !cyc) RETURN(PAPI_EINVAL);
-    int code = PAPI_read(set, values);
-    if (code == PAPI_OK) *cyc = PAPI_get_real_cyc();
+    int code = kl_read(set, values);
+    if (code == PAPI_OK) *cyc = cycles(CLOCK_MONOTONIC);
     RETURN(code);
 }
