@@ -14,7 +14,7 @@ from typing import Callable, Mapping
 from seen_lines import Seen, end_of
 
 CHECK = "examples/c/check"
-OTHERS = ("forks", "openmp", "cxx", "fortran", "scripts")  # that the check tries beside its programs
+OTHERS = ("forks", "fork_locks", "openmp", "cxx", "fortran", "scripts")  # that the check tries beside its programs
 DRAWN = 100  # scripts
 DRAWN_SANITIZED = 20
 Run = Callable[[list[str], Mapping[str, str]], "bool | None"]
