@@ -10,19 +10,8 @@ import unittest
 from collections import Counter
 from pathlib import Path
 
-from tests.support import ROOT, TOOLS, InFolder, built_library, installed, needs_command, needs_library, needs_program
-
-HEAD = """
-#include <papi.h>
-#include <stdio.h>
-#include <stdlib.h>
-static int made(const char *name) {
-    int set = PAPI_NULL;
-    if (PAPI_library_init(PAPI_VER_CURRENT) != PAPI_VER_CURRENT || PAPI_create_eventset(&set) || PAPI_add_named_event(set, name)) exit(9);
-    return set;
-}
-static void loop(long turns) { __asm__ volatile("1: dec %0\\n jnz 1b" : "+r"(turns) : : "cc"); }
-"""
+from tests.counted import HEAD, Counted
+from tests.support import ROOT, TOOLS, InFolder, installed, needs_command, needs_library, needs_program
 
 
 @needs_command("cc", "a C compiler")
@@ -47,24 +36,7 @@ class Lines(InFolder):
 @needs_command("valgrind", "valgrind")
 @needs_command("cc", "a C compiler")
 @needs_library
-class Programs(InFolder):
-    library: str
-
-    @classmethod
-    def setUpClass(cls) -> None:
-        cls.library = str(built_library())
-
-    def compile(self, text: str, *words: str) -> str:
-        """A program over the shared library."""
-        source, program = self.write("program.c", HEAD + text), str(self.folder / "program")
-        words = words or (f"-L{self.library}", "-lpapi")
-        subprocess.run(["cc", "-O1", f"-I{ROOT / 'include'}", "-o", program, source, *words, "-lpthread"], check=True)
-        return program
-
-    def count(self, *words: str, text: str = "") -> subprocess.CompletedProcess[str]:
-        """The last --library is the one that is taken."""
-        return subprocess.run([str(TOOLS / "count"), "--library", self.library, *words], input=text, capture_output=True, text=True)
-
+class Programs(Counted):
     # Two loops of known lengths: what they count differs by what the longer one runs more.
     LOOPS = """
     int main(int count, char **words) {
@@ -220,48 +192,6 @@ class Programs(InFolder):
         self.assertEqual((told, done.returncode), ([2, 16384, 2], 0))
         self.assertTrue(0 < between < 2000, between)
 
-    def test_a_handler_sees_the_programs_own_addresses(self) -> None:
-        """Each of them is that of the instruction that passes the threshold."""
-        program = self.compile("""
-            __attribute__((noinline)) static void work(void) { loop(100000); }
-            __attribute__((noinline)) static void after(void) { __asm__ volatile("nop"); }
-            static int inside, outside;
-            static void note(int set, void *address, long long vector, void *context) {
-                (void)set; (void)vector; (void)context;
-                char *at = address, *start = (char *)work;
-                if (at >= start && at < start + 64) inside++; else outside++;
-            }
-            int main(void) {
-                long long count; int set = made("PAPI_TOT_INS"), event;
-                if (PAPI_event_name_to_code("PAPI_TOT_INS", &event) || PAPI_overflow(set, event, 10000, 0, note)) return 7;
-                PAPI_start(set); work(); PAPI_stop(set, &count);
-                after();
-                printf("%d %d\\n", inside, outside);
-                return 0;
-            }
-        """)
-        self.assertEqual(self.count(program).stdout, "20 0\n")
-
-    STEPS = """
-    __asm__(".text\\n.globl turns\\nturns: dec %rdi\\n nop; nop; nop; nop; nop; nop; nop; nop\\n jnz turns\\n ret\\n");
-    extern void turns(long);
-    static void note(int set, void *address, long long vector, void *context) { (void)set; (void)vector; (void)context; printf("%ld ", (long)((char *)address - (char *)turns)); }
-    int main(void) {
-        long long value; int set = made("PAPI_TOT_INS"), event;
-        if (PAPI_event_name_to_code("PAPI_TOT_INS", &event) || PAPI_overflow(set, event, 1001, 0, note)) return 7;
-        PAPI_start(set); turns(1001); PAPI_stop(set, &value);
-        return value < 10010;
-    }
-    """
-
-    def test_a_threshold_is_passed_at_the_exact_instruction(self) -> None:
-        """A turn has ten instructions: each passing of 1,001 is one instruction behind the last."""
-        done = self.count(self.compile(self.STEPS))
-        starts = {0: 0, 11: 9, **{2 + number: number for number in range(1, 9)}}
-        places = [starts[int(word)] for word in done.stdout.split()]
-        self.assertEqual((len(places), done.returncode), (10, 0))
-        self.assertEqual({(later - one) % 10 for one, later in zip(places, places[1:])}, {1})
-
     def test_standard_input_is_the_programs(self) -> None:
         program = self.compile("""
             int main(void) {
@@ -369,63 +299,6 @@ class Programs(InFolder):
             self.assertEqual((done.stdout, done.stderr, done.returncode), ("first 99\nchild 999\nnew 4999\nshell 6999\nlast 199\n", "", 0))
         taken = sum(int(line.split()[4]) for line in kept.read_text(encoding="ascii").splitlines() if line.startswith("0 c4 a5 u "))
         self.assertEqual(taken, 99 + 199, "the stream is that of the first process")
-
-    LEFT = """
-    #include <setjmp.h>
-    static jmp_buf back; static int set, jumps, calls;
-    static void leave(int of, void *address, long long vector, void *context) {
-        long long now;
-        (void)address; (void)vector; (void)context;
-        calls++;
-        if (of != set || PAPI_read(set, &now) || now < 10000 * calls) exit(6);
-        if (calls % 2) { jumps++; longjmp(back, 1); }
-    }
-    int main(void) {
-        long long count; int event;
-        set = made("PAPI_BR_TKN");
-        if (PAPI_event_name_to_code("PAPI_BR_TKN", &event) || PAPI_overflow(set, event, 10000, 0, leave)) return 7;
-        PAPI_start(set);
-        for (volatile int i = 0; i < 5; i++) if (!setjmp(back)) loop(20001);
-        PAPI_stop(set, &count);
-        printf("%d %d\\n", calls, jumps);
-        PAPI_overflow(set, event, 0, 0, leave);
-        PAPI_start(set); loop(301); PAPI_stop(set, &count);
-        printf("%lld\\n", count);
-        return 0;
-    }
-    """
-
-    def test_a_handler_that_jumps_out(self) -> None:
-        """A loop takes 20,000 branches. The first is left after 10,000, and each later one passes two more thresholds, of which the second is at its end."""
-        for words in ((), (f"{self.library}/libkistalub.a",)):
-            done = self.count(self.compile(self.LEFT, *words))
-            self.assertEqual((done.stderr, done.returncode), ("", 0), words)
-            first, second = done.stdout.splitlines()
-            calls, jumps = map(int, first.split())
-            self.assertEqual((calls, jumps, second), (9, 5, "300"), words)
-
-    @unittest.skipUnless(shutil.which("c++"), "a compiler of C++ is not installed")
-    def test_a_handler_that_throws(self) -> None:
-        source = self.write("throws.cc", """
-            #include <papi.h>
-            #include <cstdio>
-            static void leave(int, void *, long long, void *) { throw 5; }
-            static long sum(volatile long *of, long turns) { long all = 0; for (long i = 0; i < turns; i++) all += of[i % 4]; return all; }
-            static long (*volatile work)(volatile long *, long) = sum;
-            int main() {
-                int set = PAPI_NULL, event, caught = 0; long long count; static volatile long numbers[4];
-                if (PAPI_library_init(PAPI_VER_CURRENT) != PAPI_VER_CURRENT || PAPI_create_eventset(&set) || PAPI_add_named_event(set, "PAPI_TOT_INS")) return 9;
-                if (PAPI_event_name_to_code("PAPI_TOT_INS", &event) || PAPI_overflow(set, event, 20000, 0, leave)) return 7;
-                PAPI_start(set);
-                for (int i = 0; i < 3; i++) try { work(numbers, 100000); } catch (int what) { caught += what; }
-                PAPI_stop(set, &count);
-                std::printf("%d\\n", caught);
-            }
-        """)
-        program = str(self.folder / "throws")
-        subprocess.run(["c++", "-O1", f"-I{ROOT / 'include'}", "-o", program, source, f"-L{self.library}", "-lpapi"], check=True)
-        done = self.count(program)
-        self.assertEqual((done.stdout, done.stderr, done.returncode), ("15\n", "", 0))
 
     def test_a_multiplexed_set_is_estimated(self) -> None:
         """Two events that need the same counter take turns; a steady loop is estimated well."""

@@ -13,7 +13,7 @@ typedef struct chunk { struct chunk *next; SizeT used, size; ULong memory[]; } c
 static block **buckets; /* by the first address */
 static UInt last_bucket, blocks;
 
-static UInt bucket_of(Addr pc) { return (pc * 0x9e3779b97f4a7c15UL >> 40) & last_bucket; }
+static UInt bucket_of(Addr pc) { return (UInt)(pc * 0x9e3779b97f4a7c15UL >> 40) & last_bucket; }
 
 static void make_buckets(UInt count) {
     block **before = buckets;
@@ -39,9 +39,9 @@ static void leave_block(const block *b) {
     }
 }
 
-void block_forget(Addr pc) {
+static void forget(Addr pc, Bool is_close) {
     block **at = buckets ? &buckets[bucket_of(pc)] : NULL;
-    while (at && *at && (*at)->pc != pc) at = &(*at)->next;
+    while (at && *at && ((*at)->pc != pc || (*at)->is_close != is_close)) at = &(*at)->next;
     if (!at || !*at) return;
     block *b = *at;
     leave_block(b);
@@ -54,12 +54,15 @@ void block_forget(Addr pc) {
     VG_(free)(b);
 }
 
-block *new_block(Addr pc) {
-    block_forget(pc);
+void block_forget(Addr pc) { forget(pc, False); }
+
+block *new_block(Addr pc, Bool is_close) {
+    forget(pc, is_close);
     if (!buckets) make_buckets(FIRST_BUCKETS);
     if (++blocks > last_bucket) make_buckets(2 * (last_bucket + 1));
     block *b = VG_(calloc)("block", 1, sizeof *b);
     b->pc = pc;
+    b->is_close = is_close;
     b->next = buckets[bucket_of(pc)];
     buckets[bucket_of(pc)] = b;
     return b;

@@ -12,14 +12,15 @@ struct block {
     Addr pc;
     UInt count, shares_count; /* count: of its instructions */
     Bool begins_repeated;     /* the first instruction repeats itself */
+    Bool is_close;            /* its code looks at thresholds behind each instruction. It stands beside the code that runs as a whole */
     instruction *instructions;
     share *shares;
     struct chunk *chunks;
     block *next;
 };
 
-/* Makes what is known of the block that begins at `pc`, in place of what was known. */
-block *new_block(Addr pc);
+/* Makes what is known of the block that begins at `pc`, in place of what was known. One of close code is kept until there is another one: Valgrind does not tell when that code is gone. */
+block *new_block(Addr pc, Bool is_close);
 void block_forget(Addr pc);
 
 /* Memory that is kept as long as the block. */

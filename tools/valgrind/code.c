@@ -55,35 +55,33 @@ void code_happens(code *c, UInt kind, Int amount) {
     if (!is_kept(kind)) return;
     c->pending[kind] += amount;
     share_out(c, kind, amount);
-    if (counts_down(kind)) c->is_unchecked[kind] = True;
-    if (kind == KL_INSTRUCTIONS && is_armed[KL_CYCLES]) c->is_unchecked[KL_CYCLES] = True;
+    if (kind < KL_KINDS) c->most[kind] += (ULong)amount;
 }
 
 static void takes_from_left(code *c, UInt kind, IRExpr *amount) {
-    code_store_at(c, left_of(kind), code_two(c, Iop_Sub64, code_load_at(c, left_of(kind)), amount));
-    c->left[kind] = NULL;
+    IRExpr *left = code_two(c, Iop_Sub64, code_load_at(c, left_of(kind)), amount);
+    code_store_at(c, left_of(kind), left);
+    if (!c->of->is_close) return;
+    IRExpr *sign = code_two(c, Iop_Sub64, left, code_word(1));
+    code_store_at(c, OFFSET(leaves), code_two(c, Iop_Or64, code_load_at(c, OFFSET(leaves)), sign));
 }
 
 void code_may_happen(code *c, UInt kind, IRExpr *guard) {
     if (!is_kept(kind)) return;
     IRExpr *times = code_widened(c, guard);
     code_add_at(c, count_of(kind), times);
-    if (counts_down(kind)) {
-        takes_from_left(c, kind, times);
-        c->is_unchecked[kind] = True;
-    }
-    if (kind != KL_INSTRUCTIONS || !is_armed[KL_CYCLES]) return;
-    takes_from_left(c, KL_CYCLES, times);
-    c->is_unchecked[KL_CYCLES] = True;
+    if (kind < KL_KINDS) c->most[kind]++;
+    if (counts_down(kind)) takes_from_left(c, kind, times);
+    if (kind == KL_INSTRUCTIONS && is_armed[KL_CYCLES]) takes_from_left(c, KL_CYCLES, times);
 }
 
-/* What is pending of an armed kind. */
-static Int pending_of(const code *c, UInt kind) { return c->pending[kind == KL_CYCLES ? KL_INSTRUCTIONS : kind]; }
+/* The kind that code counts in place of an armed one. */
+static UInt counted_for(UInt kind) { return kind == KL_CYCLES ? KL_INSTRUCTIONS : kind; }
 
 void code_flushes(code *c) {
     for (UInt i = 0; i < armed_count; i++) {
-        UInt kind = armed_kinds[i];
-        if (pending_of(c, kind)) takes_from_left(c, kind, code_word((ULong)(Long)pending_of(c, kind)));
+        Int amount = c->pending[counted_for(armed_kinds[i])];
+        if (amount) takes_from_left(c, armed_kinds[i], code_word((ULong)(Long)amount));
     }
     for (UInt kind = 0; kind < ALL_KINDS; kind++) {
         if (c->pending[kind]) code_add_at(c, count_of(kind), code_word((ULong)(Long)c->pending[kind]));
@@ -154,10 +152,104 @@ void code_leaves_line_open(code *c, IRExpr *guard, Bool is_turn) {
     code_call(c, guard, "tape_sees_open_line", tape_sees_open_line, mkIRExprVec_1(code_word((Addr)o)));
 }
 
+/* -- thresholds -- */
+
+void code_asks_machine(code *c) { c->asks_machine = is_machine_armed; }
+
+static const leaving *new_leaving(code *c, Addr next) {
+    UInt count = 0;
+    for (UInt kind = 0; kind < ALL_KINDS; kind++) count += c->pending[kind] != 0;
+    leaving *p = block_memory(c->of, sizeof *p + count * sizeof *p->all);
+    *p = (leaving){.line = {c->of, (UShort)c->number, (UShort)c->line, False}, .pc = c->before, .next = next, .count = 0};
+    for (UInt kind = 0; kind < ALL_KINDS; kind++)
+        if (c->pending[kind]) p->all[p->count++] = (pending){(UShort)kind, c->pending[kind]};
+    return p;
+}
+
+static void goes_to(code *c, IRExpr *guard, IRJumpKind how, Addr to) {
+    addStmtToIRSB(c->out, IRStmt_Exit(guard, how, IRConst_U64(to), __builtin_offsetof(VexGuestAMD64State, guest_RIP)));
+}
+
+static IRExpr *is_below_0(code *c, IRExpr *value) { return code_is(c, Iop_CmpLT64S, value, code_word(0)); }
+
+/* Below 0 if no more is left of a kind than this. */
+static IRExpr *is_at_most(code *c, UInt kind, ULong most) { return code_two(c, Iop_Sub64, code_load_at(c, left_of(kind)), code_word(most + 1)); }
+
+static void checks_closely(code *c, Addr next) {
+    IRExpr *signs = NULL;
+    for (UInt i = 0; i < armed_count; i++) signs = code_or(c, signs, is_at_most(c, armed_kinds[i], (ULong)c->pending[counted_for(armed_kinds[i])]));
+    IRExpr *guard = is_below_0(c, signs);
+    code_call(c, guard, "threshold_passes", threshold_passes, mkIRExprVec_1(code_word((Addr)new_leaving(c, next))));
+    goes_to(c, guard, Ijk_Boring, stub);
+}
+
+static void checks_machine(code *c, Addr next) {
+    if (!c->asks_machine) return;
+    c->asks_machine = False;
+    IRExpr *guard = is_below_0(c, code_load_at(c, OFFSET(leaves)));
+    code_call(c, guard, "block_is_left", block_is_left, mkIRExprVec_1(code_word((Addr)new_leaving(c, next))));
+    goes_to(c, guard, Ijk_Boring, next);
+}
+
+void code_checks_behind(code *c, Addr next) {
+    if (c->of->is_close) checks_closely(c, next);
+    else checks_machine(c, next);
+}
+
+/* One test of all signs. What the block has none of was not passed unless `leaves` says so. */
+static void checks_from_afar(code *c) {
+    IRExpr *signs = code_load_at(c, OFFSET(leaves));
+    for (UInt i = 0; i < armed_count; i++) {
+        ULong most = c->most[counted_for(armed_kinds[i])];
+        if (most) signs = code_or(c, signs, is_at_most(c, armed_kinds[i], most));
+    }
+    IRExpr *guard = is_below_0(c, signs);
+    if (!c->is_redirected) code_call(c, guard, "close_code_is_next", close_code_is_next, mkIRExprVec_0());
+    goes_to(c, guard, c->is_redirected ? Ijk_Boring : Ijk_NoRedir, c->first);
+}
+
+static void turn_round(IRStmt **from, IRStmt **end) {
+    for (; from < end; from++) {
+        IRStmt *s = *from;
+        *from = *--end;
+        *end = s;
+    }
+}
+
+/* Moves the statements from a number on to their place before others. */
+static void move(IRSB *sb, Int from, Int to) {
+    turn_round(sb->stmts + to, sb->stmts + from);
+    turn_round(sb->stmts + from, sb->stmts + sb->stmts_used);
+    turn_round(sb->stmts + to, sb->stmts + sb->stmts_used);
+}
+
+void code_checks_beginning(code *c) {
+    Int from = c->out->stmts_used;
+    if (!armed_count || !c->beginning || c->of->is_close) return;
+    checks_from_afar(c);
+    move(c->out, from, c->beginning);
+}
+
+static void checks_turn(code *c) {
+    if (!has_turns || c->of->begins_repeated || c->of->is_close) return;
+    IRExpr *guard = code_is(c, Iop_CmpLE64S, code_load_at(c, OFFSET(turn_at)), code_load_at(c, count_of(KL_INSTRUCTIONS)));
+    code_call(c, guard, "turn_ends", turn_ends, mkIRExprVec_1(code_word(c->pc)));
+    goes_to(c, guard, Ijk_Boring, stub);
+}
+
+/* -- the beginning -- */
+
+/* Behind other instructions of the block registers may not be in their places. */
+static Bool can_be_left(const code *c) { return stub && c->pc == c->first; }
+
 void code_begins(code *c) {
     if (c->base) return;
     c->base = code_load(c, code_word((Addr)&current));
-    code_checks_turn(c);
+    if (can_be_left(c)) {
+        checks_turn(c);
+        c->beginning = c->out->stmts_used;
+    }
+    if (c->of->is_close) code_store_at(c, OFFSET(leaves), code_word(0));
     code_store_at(c, OFFSET(at), code_word((Addr)c->of));
     if (!words.has_tape) return;
     IRExpr *guard = NULL;
@@ -167,54 +259,4 @@ void code_begins(code *c) {
     }
     code_call(c, guard, "tape_sees_block", tape_sees_block, mkIRExprVec_1(code_word((Addr)c->of)));
     c->rooms = code_load_at(c, OFFSET(rooms));
-}
-
-/* -- thresholds -- */
-
-void code_unchecks_machine(code *c) {
-    for (UInt i = 0; i < armed_count; i++) {
-        UInt kind = armed_kinds[i];
-        Bool is_machines = (kind >= KL_L1D_LOAD_MISSES && kind <= KL_ITLB_MISSES) || kind == KL_ERRED_TAKEN || kind == KL_ERRED_NOT_TAKEN;
-        if (!is_machines && kind != KL_CYCLES && kind != KL_STALLS) continue;
-        c->is_unchecked[kind] = True;
-        c->left[kind] = NULL;
-    }
-}
-
-static passing *new_passing(code *c, Addr next) {
-    UInt count = 0;
-    for (UInt kind = 0; kind < ALL_KINDS; kind++) count += c->pending[kind] != 0;
-    passing *p = block_memory(c->of, sizeof *p + count * sizeof *p->all);
-    *p = (passing){.line = {c->of, (UShort)c->number, (UShort)c->line, False}, .pc = c->before, .next = next, .count = 0};
-    for (UInt kind = 0; kind < ALL_KINDS; kind++)
-        if (c->pending[kind]) p->all[p->count++] = (pending){(UShort)kind, c->pending[kind]};
-    return p;
-}
-
-static void goes_to_stub(code *c, IRExpr *guard) {
-    addStmtToIRSB(c->out, IRStmt_Exit(guard, Ijk_Boring, IRConst_U64(stub), __builtin_offsetof(VexGuestAMD64State, guest_RIP)));
-}
-
-/* A kind has passed if what was left of it, without what is pending and without one more, is below 0: one test of all signs. */
-void code_checks_thresholds(code *c, Addr next) {
-    IRExpr *signs = NULL;
-    for (UInt i = 0; stub && i < armed_count; i++) {
-        UInt kind = armed_kinds[i];
-        if (!c->is_unchecked[kind]) continue;
-        c->is_unchecked[kind] = False;
-        if (!c->left[kind]) c->left[kind] = code_load_at(c, left_of(kind));
-        signs = code_or(c, signs, code_two(c, Iop_Sub64, c->left[kind], code_word((ULong)(Long)pending_of(c, kind) + 1)));
-    }
-    if (!signs) return;
-    IRExpr *guard = code_is(c, Iop_CmpLT64S, signs, code_word(0));
-    code_call(c, guard, "threshold_passes", threshold_passes, mkIRExprVec_1(code_word((Addr)new_passing(c, next))));
-    goes_to_stub(c, guard);
-}
-
-/* Behind other instructions of the block registers may not be in their places. */
-void code_checks_turn(code *c) {
-    if (!stub || !has_turns || c->of->begins_repeated || c->pc != c->of->pc) return;
-    IRExpr *guard = code_is(c, Iop_CmpLE64S, code_load_at(c, OFFSET(turn_at)), code_load_at(c, count_of(KL_INSTRUCTIONS)));
-    code_call(c, guard, "turn_ends", turn_ends, mkIRExprVec_1(code_word(c->pc)));
-    goes_to_stub(c, guard);
 }

@@ -12,13 +12,15 @@ typedef struct {
     IRExpr *base, *rooms;     /* the core, once the block counts, and its rooms */
     Int pending[ALL_KINDS];   /* occurrences that are not added to the counts yet */
     UInt number, line, segment; /* this instruction; the first of its straight line; the exits so far */
-    Addr pc, before;          /* this instruction, and the one before it in this block */
+    Addr first, pc, before;   /* the block's first instruction, this one, and the one before it in this block */
     UInt size;
     UChar class;
     Bool is_counted, is_branch_seen;
     Addr fetched_page, fetched_line; /* of the last fetch in this block */
-    IRExpr *left[KL_KINDS];   /* as they are in the core, if that is known */
-    Bool is_unchecked[KL_KINDS];
+    Bool is_redirected;       /* Valgrind runs this code in place of the program's */
+    Bool asks_machine;        /* since the block could be left; only if the machine can pass a threshold */
+    ULong most[KL_KINDS];     /* occurrences in the block beside those that the machine makes */
+    Int beginning;            /* the number of statements before which it can be left, or 0 */
     UInt shares_count, shares_room;
     share *shares;
 } code;
@@ -63,12 +65,12 @@ void code_flushes(code *c);
 /* The block begins to count. */
 void code_begins(code *c);
 
-/* Leaves the block before the instruction at `next` if a threshold was passed by one before it. */
-void code_checks_thresholds(code *c, Addr next);
-/* Leaves the block before its first instruction, if the thread's turn is over. */
-void code_checks_turn(code *c);
-/* Occurrences of the machine may have passed some. */
-void code_unchecks_machine(code *c);
+/* Leaves the block before the instruction at `next` if one before it passed a threshold; in code that is not close, if the machine did, or brought one near. */
+void code_checks_behind(code *c, Addr next);
+/* The machine may have been asked. */
+void code_asks_machine(code *c);
+/* All that the block has is known. It is left at its beginning if a threshold is near there, or was passed. */
+void code_checks_beginning(code *c);
 
 /* The machine is asked. */
 void code_fetches(code *c);

@@ -10,27 +10,26 @@ static site *new_site(code *c, UInt size, UInt side) {
     return s;
 }
 
-/* Not 0 if an instruction at a known address is not in what its set used last. */
-static IRExpr *fetch_differs(code *c, const cache *part, UInt used, Addr address) {
+/* Not 0 if a line of the instruction is not what its set used last; NULL if that is known. */
+static IRExpr *fetch_differs(code *c, const cache *part, UInt used, Addr known) {
+    Addr last = (c->pc + c->size - 1) >> part->line_bits;
+    IRExpr *differs = NULL;
     if (!part->tags) return NULL;
-    Addr number = address >> part->line_bits;
-    return code_two(c, Iop_Xor64, code_load_at(c, used + 8UL * (number & part->last_set)), code_word(number << part->line_bits));
+    for (Addr number = c->pc >> part->line_bits; number <= last; number++) {
+        IRExpr *used_last = number == known ? NULL : code_load_at(c, used + 8UL * (number & part->last_set));
+        if (used_last) differs = code_or(c, differs, code_two(c, Iop_Xor64, used_last, code_word(number << part->line_bits)));
+    }
+    return differs;
 }
 
 void code_fetches(code *c) {
     const cache *lines = &current->l1i, *pages = &current->itlb;
-    Addr last = c->pc + c->size - 1, line = c->pc >> lines->line_bits, page = c->pc >> pages->line_bits;
-    Bool is_one_line = !lines->tags || line == last >> lines->line_bits, is_one_page = !pages->tags || page == last >> pages->line_bits;
-    Bool is_line_known = !lines->tags || line == c->fetched_line, is_page_known = !pages->tags || page == c->fetched_page;
-    if (is_one_line && is_one_page && is_line_known && is_page_known) return;
-    IRExpr *guard = NULL;
-    if (is_one_line && is_one_page) {
-        IRExpr *line_differs = is_line_known ? NULL : fetch_differs(c, lines, layout.l1i_used, c->pc);
-        IRExpr *page_differs = is_page_known ? NULL : fetch_differs(c, pages, layout.itlb_used, c->pc);
-        guard = code_is(c, Iop_CmpNE64, code_or(c, line_differs, page_differs), code_word(0));
-    }
+    Addr last = c->pc + c->size - 1;
+    IRExpr *differs = code_or(c, fetch_differs(c, lines, layout.l1i_used, c->fetched_line), fetch_differs(c, pages, layout.itlb_used, c->fetched_page));
+    if (!differs) return;
+    IRExpr *guard = code_is(c, Iop_CmpNE64, differs, code_word(0));
     code_call(c, guard, "model_sees_fetch", model_sees_fetch, mkIRExprVec_1(code_word((Addr)new_site(c, c->size, BY_FETCH))));
-    code_unchecks_machine(c);
+    code_asks_machine(c);
     c->fetched_line = last >> lines->line_bits;
     c->fetched_page = last >> pages->line_bits;
 }
@@ -77,7 +76,7 @@ void code_accesses(code *c, const access *a) {
     IRExpr *differs = is_asked ? machine_differs(c, a) : NULL;
     if (!guard && (differs || !is_asked)) guard = code_is(c, Iop_CmpNE64, code_or(c, differs, full), code_word(0));
     code_call(c, guard, "model_sees_access", model_sees_access, mkIRExprVec_2(code_word((Addr)s), a->address));
-    code_unchecks_machine(c);
+    code_asks_machine(c);
 }
 
 static IRExpr *load_byte(code *c, IRExpr *address) {
@@ -110,5 +109,5 @@ void code_branches(code *c, IRExpr *taken) {
     if (words.has_model) errs = predict(c, was_taken);
     IRExpr *calls = code_is(c, Iop_CmpNE64, code_or(c, full, words.has_model ? errs : NULL), code_word(0));
     code_call(c, calls, "model_sees_branch", model_sees_branch, mkIRExprVec_3(code_word((Addr)s), was_taken, errs));
-    code_unchecks_machine(c);
+    code_asks_machine(c);
 }

@@ -123,6 +123,12 @@ void counting_ends(void) {
     set_current(running);
 }
 
+Bool core_has_passed(const core *c) {
+    for (UInt i = 0; i < KL_KINDS; i++)
+        if (c->left[i] <= 0) return True;
+    return False;
+}
+
 void core_takes(core *c, UInt kind, Long amount) {
     c->counts[kind] += (ULong)amount;
     if (kind < KL_KINDS) c->left[kind] -= amount;
@@ -135,6 +141,7 @@ void core_starts(core *c) {
     sum_up(c, now);
     for (UInt i = 0; i < ALL_KINDS; i++) c->dropped[i] += now[i] - c->at_stop[i];
     for (UInt i = 0; i < KL_KINDS; i++) c->left[i] = c->period[i] ? c->left_at_stop[i] : NEVER;
+    c->leaves = core_has_passed(c) ? -1 : 0;
     c->is_stopped = False;
     if (c->tape) tape_starts(c);
 }

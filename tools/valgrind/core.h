@@ -20,6 +20,7 @@ typedef struct {
     Int *rooms;          /* the occurrences for which the tape's lines have room, by their slots */
     const block *at;     /* the block that runs */
     Addr last;           /* the last instruction of the block before, if something is armed */
+    Long leaves;         /* below 0: a threshold was passed, or the machine brought one near. The block is left behind the instruction that runs */
     Bool is_nobodys;     /* what runs here is not counted */
     cache l1d, l1i, l2, dtlb, itlb;
     predictor branches;
@@ -58,6 +59,9 @@ void counting_begins(void);
 
 /* This process counts no more: it is a fork of the one that does. */
 void counting_ends(void);
+
+/* A threshold is passed, and the stub is not called yet. */
+Bool core_has_passed(const core *c);
 
 /* Something happened that generated code did not count. */
 void core_takes(core *c, UInt kind, Long amount);

@@ -16,6 +16,7 @@
 #include "requests.h"
 #include "sleep.h"
 #include "tape.h"
+#include "thresholds.h"
 #include "words.h"
 
 /* What the system tells a program beside its stack (elf.h). */
@@ -62,6 +63,7 @@ void program_is_loaded(void) {
 void program_goes_on(ThreadId tid, ULong blocks) {
     (void)blocks;
     program_is_loaded();
+    close_code_is_made();
     running = tid;
     set_current(tid);
 }

@@ -69,7 +69,7 @@ static void instruction_begins(code *c, Addr pc, UInt size) {
     begins_here(c);
     if (!c->is_counted) return;
     code_begins(c);
-    code_checks_thresholds(c, pc);
+    code_checks_behind(c, pc);
     c->class = class_of_bytes((const UChar *)pc, size);
     c->of->instructions[c->number] = (instruction){pc, (UShort)size, (UShort)c->segment};
     if (!(c->class & REPEATS)) code_happens(c, KL_INSTRUCTIONS, 1);
@@ -179,7 +179,7 @@ static Int see_access(code *c, const IRSB *sb, Int i) {
 
 /* Makes what is known of the block before its code is. */
 static block *block_of(Addr pc, const IRSB *sb) {
-    block *b = new_block(pc);
+    block *b = new_block(pc, is_close);
     Addr first = 0;
     UInt size = 0;
     for (Int i = 0; i < sb->stmts_used; i++) {
@@ -209,6 +209,7 @@ static void block_ends(code *c, const IRSB *in) {
     instruction_ends(c, is_known, next);
     if (c->is_counted) code_leaves_line_open(c, NULL, c->class & REPEATS && is_known && next == c->pc);
     code_flushes(c);
+    code_checks_beginning(c);
     if (in->jumpkind == Ijk_Yield) ends_turn(c);
     keep_shares(c);
 }
@@ -218,10 +219,10 @@ IRSB *instrument(VgCallbackClosure *closure, IRSB *in, const VexGuestLayout *gue
     static share *shares;
     static UInt shares_room;
     program_is_loaded(); /* the first block is translated before the core says that the program goes on */
-    code whole = {.out = deepCopyIRSBExceptStmts(in), .of = block_of(closure->nraddr, in), .shares = shares, .shares_room = shares_room}, *c = &whole;
+    code whole = {.out = deepCopyIRSBExceptStmts(in), .of = block_of(closure->nraddr, in), .first = closure->readdr, .shares = shares, .shares_room = shares_room}, *c = &whole;
+    c->is_redirected = closure->readdr != closure->nraddr;
     Int i = 0, later = 0;
     (void)guest_layout, (void)extents, (void)host, (void)guest_word, (void)host_word;
-    for (UInt kind = 0; kind < KL_KINDS; kind++) c->is_unchecked[kind] = True;
     while (i < in->stmts_used && in->stmts[i]->tag != Ist_IMark) addStmtToIRSB(c->out, in->stmts[i++]);
     for (; i < in->stmts_used; i++) {
         IRStmt *s = in->stmts[i];

@@ -24,7 +24,7 @@ static void put_on_tape(core *c, site *s, UInt what, UInt amount) {
 static void happens(core *c, site *s, UInt what) {
     UInt kind = kinds[s->side][what];
     c->counts[kind]++;
-    c->left[kind]--;
+    if (--c->left[kind] <= 0) c->leaves = -1;
     if (c->tape) put_on_tape(c, s, what, 1);
 }
 
@@ -33,6 +33,7 @@ static void stall(core *c, site *s, UInt cost) {
     c->counts[KL_STALLS] += cycles;
     c->left[KL_STALLS] -= (Long)cycles;
     c->left[KL_CYCLES] -= (Long)cycles;
+    if (c->left[KL_STALLS] <= 0 || c->left[KL_CYCLES] <= (Long)c->at->count) c->leaves = -1;
     if (!c->tape) return;
     put_on_tape(c, s, CYCLES, (UInt)cycles);
     put_on_tape(c, s, STALLS, (UInt)cycles);

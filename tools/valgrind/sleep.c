@@ -77,7 +77,7 @@ void sleep_ended(ThreadId tid, UInt number, const UWord *arguments, SysRes resul
     if (!waits || !waits[tid].waits) return;
     wait_of_thread *w = &waits[tid];
     w->waits = False;
-    ULong nanoseconds = waited(w, number, arguments, result), rate = words.mhz;
+    ULong nanoseconds = waited(w, number, arguments, result), rate = (ULong)words.mhz;
     ULong end = w->start + nanoseconds / 1000 * rate + nanoseconds % 1000 * rate / 1000, until_now = now();
     if (end > until_now) slept += end - until_now;
 }

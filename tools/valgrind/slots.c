@@ -19,7 +19,7 @@ static UInt used = 2, room, *table, last_place; /* table: by their checksums, 0 
 static Int *idle, *full;
 
 static UInt place_of(UInt kind, Addr pc) {
-    UInt place = ((pc * 64 + kind) * 0x9e3779b97f4a7c15UL >> 32) & last_place;
+    UInt place = (UInt)((pc * 64 + kind) * 0x9e3779b97f4a7c15UL >> 32) & last_place;
     while (table[place] && (slots[table[place]].pc != pc || slots[table[place]].kind != kind)) place = (place + 1) & last_place;
     return place;
 }

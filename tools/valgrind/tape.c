@@ -121,7 +121,7 @@ static void end_line(tape *t) {
 static void end_window(tape *t) {
     end_line(t);
     flush(t);
-    seen += t->in_window;
+    seen += (ULong)t->in_window;
     t->in_window = 0;
     if (seen - shown < SHOWN_EVERY) return;
     shown = seen;

@@ -56,24 +56,30 @@ static Bool take_costs(const HChar *word) {
 }
 
 static Bool take_lines(const HChar *word) {
+    Long number;
     if (VG_BOOL_CLO(word, "--tape", words.has_tape)) {
     } else if (VG_BOOL_CLO(word, "--each", words.is_each)) {
     } else if (VG_BINT_CLO(word, "--window", words.window, 1, MOST_WINDOW)) {
-    } else if (VG_BINT_CLO(word, "--most-amount", words.most_amount, 0, NO_LIMIT)) {
-        if (!words.most_amount) words.most_amount = NO_LIMIT;
+    } else if (VG_BINT_CLO(word, "--most-amount", number, 0, NO_LIMIT)) {
+        words.most_amount = number ? (Int)number : NO_LIMIT;
     } else if (VG_XACT_CLO(word, "--codes=recorded", words.codes, RECORDED_CODES)) {
     } else if (VG_XACT_CLO(word, "--codes=skl", words.codes, SKYLAKE_CODES)) {
-    } else if (VG_INT_CLO(word, "--stream", words.stream)) {
+    } else if (VG_INT_CLO(word, "--stream", number)) {
+        words.stream = (Int)number;
     } else if (VG_STR_CLO(word, "--streams", words.streams)) {
-    } else if (VG_INT_CLO(word, "--report", words.report)) {
+    } else if (VG_INT_CLO(word, "--report", number)) {
+        words.report = (Int)number;
     } else if (VG_STR_CLO(word, "--no-call", words.no_call)) {
     } else return False;
     return True;
 }
 
 static Bool take_begin(const HChar *word) {
-    if (VG_BHEX_CLO(word, "--entry", words.entry, 0, ~0UL)) {
-    } else if (VG_BHEX_CLO(word, "--from", words.from, 0, ~0UL)) {
+    Long address;
+    if (VG_BHEX_CLO(word, "--entry", address, 0, ~0UL)) {
+        words.entry = (Addr)address;
+    } else if (VG_BHEX_CLO(word, "--from", address, 0, ~0UL)) {
+        words.from = (Addr)address;
     } else if (VG_BOOL_CLO(word, "--stopped", words.is_stopped)) {
     } else if (VG_BOOL_CLO(word, "--keep-random", words.keeps_random)) {
     } else if (VG_XACT_CLO(word, "--threads=any", words.threads, ANY_THREAD)) {
@@ -84,11 +90,15 @@ static Bool take_begin(const HChar *word) {
 }
 
 Bool words_take(const HChar *word) {
+    Long bits;
     if (VG_BOOL_CLO(word, "--model", words.has_model)) return True;
     if (VG_BOOL_CLO(word, "--counts", words.has_counts)) return True;
     if (VG_BOOL_CLO(word, "--further", words.has_further)) return True;
     if (VG_BOOL_CLO(word, "--totals", words.shows_totals)) return True;
-    if (VG_BINT_CLO(word, "--predictor", words.predictor_bits, 1, MOST_PREDICTOR_BITS)) return True;
+    if (VG_BINT_CLO(word, "--predictor", bits, 1, MOST_PREDICTOR_BITS)) {
+        words.predictor_bits = (Int)bits;
+        return True;
+    }
     if (VG_BOOL_CLO(word, "--library", words.counts_library)) return True;
     if (VG_BINT_CLO(word, "--mhz", words.mhz, 1, MOST_MHZ)) return True;
     return take_shape(word) || take_costs(word) || take_lines(word) || take_begin(word);
