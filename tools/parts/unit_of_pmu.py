@@ -18,6 +18,7 @@ from parts.left_out import SAYABLE_MODIFIERS, Account, LeftOut
 from parts.libpfm4 import Attribute, Event, Libpfm4, Pmu, Refused
 from parts.linux_source import ConstraintTable
 from parts.perf_events import Code, CounterTable, Places
+from parts.preset_umasks import Umasks
 from parts.unit_file import MOST_COUNTERS, MOST_EVENTS, MOST_UMASKS, NOTHING_FIXED, Fixed
 
 __all__ = ["SAYABLE_MODIFIERS", "Account", "Converter"]
@@ -26,6 +27,7 @@ COMPONENT = "cpu"
 ALWAYS = 0x530000  # USR, OS, INT and EN of the event select register
 EDGE = 1 << 18
 INVERT = 1 << 23
+ANY_THREAD = 1 << 21  # of the core, not this one alone
 AMOUNT_PLACE = 24
 SAYABLE_BITS = 0xFF000000 | INVERT | EDGE | 0xFFFF
 
@@ -77,12 +79,13 @@ class Converter:
     """Makes one unit, and keeps the account of what it left out."""
 
     def __init__(self, library: Libpfm4, pmu: Pmu, table: CounterTable | None = None, width: int = 48, most: int | None = None,
-                 constraints: ConstraintTable | None = None):
-        """`most` is how many programmable counters are taken, if it is given."""
+                 constraints: ConstraintTable | None = None, wanted: Umasks = frozenset()):
+        """`most` is how many programmable counters are taken, if it is given. `wanted` are umasks that stay before others where an event has too many."""
         self.library = library
         self.pmu = pmu
         self.table = table
         self.constraints = constraints
+        self.wanted = wanted
         self.width = width
         self.there = (table.programmable() if table else 0) or pmu.programmable
         self.programmable = self.there if most is None else min(most, self.there)
@@ -153,7 +156,7 @@ class Converter:
         coded = self._keep(event, coded, [each for each in coded if places[each] != Places(frozenset(), frozenset())], "the unit does not have its counters")
         if not coded:
             raise LeftOut("the unit does not have its counters")
-        coded = self._at_most_16(event, coded, default)
+        coded = self._at_most_umasks(event, coded, default)
         alone = self._alone(event, coded)
         shared = union([places[each] for each in coded])
         for each in coded:
@@ -194,6 +197,8 @@ class Converter:
             raise LeftOut(f"libpfm4 says: {refusal}") from None
         if coded.special >> 32:
             raise LeftOut("the select code has more than 8 bits")
+        if coded.special & ANY_THREAD:
+            raise LeftOut("the code counts for any thread of a core, and a stream is one thread's own")
         if coded.special & ~SAYABLE_BITS:
             raise LeftOut("the code sets a bit that is no modifier of a unit")
         return coded
@@ -225,10 +230,14 @@ class Converter:
         select = default.select if default else Counter(each.select for each in coded).most_common(1)[0][0]
         return self._keep(event, coded, [each for each in coded if each.select == select], "the umask changes the select code")
 
-    def _at_most_16(self, event: Event, coded: list[CodedUmask], default: CodedUmask | None) -> list[CodedUmask]:
-        """The default stays. Of the others, second names go first, and then the last ones."""
-        ranked = sorted(coded, key=lambda each: (each != default, each.attribute.is_alias))
-        kept = ranked[:MOST_UMASKS]
+    def _at_most_umasks(self, event: Event, coded: list[CodedUmask], default: CodedUmask | None) -> list[CodedUmask]:
+        """The default and those that are wanted stay. Of the others, second names go first, and then the last ones."""
+
+        def rank(umask: CodedUmask) -> tuple[bool, bool, bool]:
+            is_wanted = (event.name.upper(), umask.attribute.name.upper()) in self.wanted
+            return umask != default, not is_wanted, umask.attribute.is_alias
+
+        kept = sorted(coded, key=rank)[:MOST_UMASKS]
         return self._keep(event, coded, [each for each in coded if each in kept], f"more than {MOST_UMASKS} umasks")
 
     def _keep(self, event: Event, coded: list[CodedUmask], kept: list[CodedUmask], reason: str) -> list[CodedUmask]:

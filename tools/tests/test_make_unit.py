@@ -9,9 +9,11 @@ from pathlib import Path
 from parts import unit_file
 from parts.command import Fault
 from parts.event_counters import EventCounters
-from parts.linux_source import find_sources
+from parts.libpfm4 import Libpfm4
+from parts.linux_source import PROCESSORS, Processor, find_sources
 from parts.perf_events import Places, read_event_files
-from tests.support import ROOT, TOOLS, InFolder, needs_libpfm4, needs_program, run_program, run_tool
+from parts.preset_umasks import read_umasks
+from tests.support import ROOT, TOOLS, InFolder, needs_libpfm4, needs_program, run_program, run_tool, some
 
 SAMPLE = str(TOOLS / "tests/sample.events.json")
 
@@ -21,6 +23,9 @@ def places(programmable: set[int], fixed: set[int]) -> Places:
 
 
 class UnitFile(unittest.TestCase):
+    def test_a_umask_has_no_name_of_a_modifier(self) -> None:
+        self.assertEqual([name for name in ("u", "K", "e", "I", "c", "d", "uk", "a b") if unit_file.is_umask_name(name)], ["d", "uk"])
+
     def test_rows(self) -> None:
         umask = unit_file.Umask("ALL", 1, True, True, "All, of any kind")
         event = unit_file.Event("BR_INST", 0xC4, ("P0", "F0"), "Branches", (umask,))
@@ -47,6 +52,19 @@ class UnitFile(unittest.TestCase):
         for name, good in (("A_b-9", True), ("", False), ("A.B", False), ("x" * 64, True), ("x" * 65, False)):
             self.assertEqual(unit_file.is_name(name), good, name)
         self.assertFalse(unit_file.is_umask_name("E"))
+
+
+class PresetUmasks(InFolder):
+    def test_umasks_that_a_preset_file_names(self) -> None:
+        name = self.write("presets", "CPU,skl\nPRESET,PAPI_CA_SNP,NOT_DERIVED,skl::Offcore_0:SNP_ANY:u, L2:RFO_HIT,NOTE,'a:b'\n#PRESET,PAPI_L1_DCM,NOT_DERIVED,L1D:MISS\n"
+                                     "EVENT,FP,DERIVED_POSTFIX,N0|N1|+|,FP:SCALAR,FP:WIDE\nPRESETS,A,B,C:D\n")
+        wanted = {("OFFCORE_0", "SNP_ANY"), ("L2", "RFO_HIT"), ("FP", "SCALAR"), ("FP", "WIDE")}
+        self.assertLessEqual(wanted, read_umasks(name))
+        self.assertFalse({("L1D", "MISS"), ("C", "D")} & read_umasks(name))
+
+    def test_a_file_that_is_not_there(self) -> None:
+        with self.assertRaisesRegex(Fault, "No such file"):
+            read_umasks(str(self.folder / "absent"))
 
 
 class EventFiles(InFolder):
@@ -102,6 +120,27 @@ static struct event_constraint intel_skl_event_constraints[] = {
 	EVENT_CONSTRAINT_END
 };
 """
+
+
+# Of Linux, in tools/perf/pmu-events/arch/x86.
+FOLDERS = ("amdzen1 amdzen2 amdzen3 broadwell broadwellx cascadelakex haswell haswellx icelake icelakex ivybridge ivytown jaketown nehalemep nehalemex sandybridge sapphirerapids skylake "
+           "skylakex westmereep-dp westmereep-sp").split()
+# Of arch/x86/events/intel/core.c.
+TABLES = "bdw hsw icl ivb nehalem skl snb spr westmere".split()
+
+
+class Processors(unittest.TestCase):
+    @needs_libpfm4
+    def test_each_is_one_of_libpfm4(self) -> None:
+        known = {pmu.name for pmu in Libpfm4().pmus()}
+        self.assertEqual(some(name for name in PROCESSORS if name in known), list(PROCESSORS))
+
+    def test_where_linux_has_each(self) -> None:
+        self.assertEqual(sorted(each.folder for each in PROCESSORS.values()), FOLDERS)
+        self.assertEqual(sorted({each.table for each in PROCESSORS.values() if each.table}), [f"intel_{name}_event_constraints" for name in TABLES])
+        for pmu, folder, table in (("skx", "skylakex", "skl"), ("wsm_dp", "westmereep-dp", "westmere"), ("ivb_ep", "ivytown", "ivb"), ("icx", "icelakex", "icl"), ("hsw", "haswell", "hsw")):
+            self.assertEqual(PROCESSORS[pmu], Processor(folder, f"intel_{table}_event_constraints"))
+        self.assertEqual(PROCESSORS["amd64_fam17h_zen2"], Processor("amdzen2"))
 
 
 class KernelTables(InFolder):
@@ -198,15 +237,41 @@ class RealProcessors(InFolder):
     def test_names_that_are_left_out(self) -> None:
         rows = self.rows("skl")
         told = dict(line.split(": ", 1) for line in self.rows("skl", "--left-out"))
-        self.assertEqual(told["CPU_CLK_THREAD_UNHALTED:REF_XCLK_ANY"], "the code sets a bit that is no modifier of a unit")
+        self.assertEqual(told["CPU_CLK_THREAD_UNHALTED:REF_XCLK_ANY"], "the code counts for any thread of a core, and a stream is one thread's own")
         listed = {name for row in rows if row.startswith("#   ") for name in row[4:].split()}
         self.assertLessEqual(told.keys(), listed)
         halves = [row for row in rows if row.startswith("# taken without its second register: ")]
         self.assertEqual(len(halves), 1)
         self.assertIn("FRONTEND_RETIRED:DSB_MISS", listed - told.keys())
 
+    def test_umasks_that_stay_for_a_preset_file(self) -> None:
+        presets = self.write("presets", "CPU,skl\nPRESET,PAPI_CA_SNP,NOT_DERIVED,OFFCORE_RESPONSE_0:SNP_ANY\nPRESET,PAPI_L2_TCW,NOT_DERIVED,L2_RQSTS:rfo_hit\n")
+        names = "OFFCORE_RESPONSE_0:SNP_ANY", "L2_RQSTS:RFO_HIT"
+        for words, reason in (((), "more than 16 umasks"), (("--presets", presets), None)):
+            told = dict(line.split(": ", 1) for line in self.rows("skl", "--left-out", *words))
+            self.assertEqual([told.get(name) for name in names], [reason, reason], words)
+        rows = self.rows("skl", "--presets", presets)
+        start = rows.index(self.row(rows, "EVENT,OFFCORE_RESPONSE_0")) + 1
+        umasks = [row.split(",")[1] for row in rows[start:] if row.startswith(("UMASK,", "EVENT,"))][:17]
+        self.assertIn("SNP_ANY", umasks[:16])
+        self.assertEqual(umasks[16], "OFFCORE_RESPONSE_1")
+
+    def test_an_edge_is_part_of_a_umask(self) -> None:
+        rows = self.rows("skl")
+        place = rows.index(self.row(rows, "UMASK,MS_SWITCHES"))
+        self.assertEqual((rows[place].split(",")[2], rows[place + 1]), ("30", "UMASK_MODIFIERS,e,1"))
+
+    def test_umasks_that_may_stand_together(self) -> None:
+        """None of an event of which libpfm4 combines no two, and each of one of which it combines all."""
+        rows = self.rows("skl")
+        for name, flags in (("HLE_RETIRED", "n" * 8), ("L2_LINES_IN", "-" * 2)):
+            after = rows[rows.index(self.row(rows, f"EVENT,{name}")) + 1 :]
+            umasks = [row.split(",")[3].replace("d", "") or "-" for row in after[: [row.startswith("EVENT,") for row in after].index(True)] if row.startswith("UMASK,")]
+            self.assertEqual("".join(umasks), flags, name)
+
     def test_with_event_files(self) -> None:
         rows = self.rows("skl", "--width", "16", "--events", SAMPLE)
+        self.assertRegex(rows[[row.startswith("# counters: ") for row in rows].index(True)], r"^# counters: 10 of [0-9]{3} codes have theirs in the event files$")
         self.assertEqual([row for row in rows if row.startswith("COUNTER")][3:5], ["COUNTER,P3,16,P", "COUNTER,F0,16,F"])
         self.assertTrue(self.row(rows, "EVENT,INST_RETIRED").startswith("EVENT,INST_RETIRED,c0,P0 P1 P2 P3 F0,"))
         self.assertTrue(self.row(rows, "EVENT,L1D_PEND_MISS").startswith("EVENT,L1D_PEND_MISS,48,P0 P1 P2 P3,"))
