@@ -1,4 +1,4 @@
-# Writes one of the large files of bench/tools: awk -v kind=KIND -f tables.awk
+# Writes one of the large files of bench/tools: awk -v kind=KIND -v table=TABLE -f tables.awk, over the table of presets
 # No file passes the 1,048,576 bytes that a unit or a preset file may have. The same bytes on every machine.
 
 BEGIN {
@@ -35,16 +35,16 @@ function wide_unit(    n, i, from, to, room, event) {
     }
 }
 
-# 136 processors with all 26 presets each, over native events of the first component of wide.unit.
-function many_presets(    cpu, k, symbols, count) {
-    count = split("L1_DCM L1_ICM L2_DCM L2_ICM L1_TCM L2_TCM L3_TCM TLB_DM TLB_IM L1_LDM L1_STM BR_UCN BR_CN BR_TKN BR_NTK BR_MSP BR_PRC " \
-        "TOT_INS LD_INS SR_INS BR_INS RES_STL TOT_CYC LST_INS FP_OPS REF_CYC", symbols, " ")
+# 136 processors with all presets of the table each, over native events of the first component of wide.unit.
+function many_presets(    cpu, k, symbols, count, line) {
+    while ((getline line <table) > 0)
+        if (line ~ /^PAPI_/) symbols[++count] = substr(line, 1, index(line, ",") - 1)
     for (cpu = 0; cpu < 136; cpu++) {
         printf "CPU,cpu%d\n", cpu
         for (k = 1; k <= count; k++) {
-            printf "PRESET,PAPI_%s,", symbols[k]
+            printf "PRESET,%s,", symbols[k]
             if (k % 4 == 0) printf "NOT_DERIVED,p00::E%04x:a\n", k
-            else printf "%s,p00::E%04x:a,p00::E%04x:b\n", k % 4 == 1 ? "DERIVED_ADD" : k % 4 == 2 ? "DERIVED_SUB" : "DERIVED_POSTFIX,N0|N1|-|", k, k + 26
+            else printf "%s,p00::E%04x:a,p00::E%04x:b\n", k % 4 == 1 ? "DERIVED_ADD" : k % 4 == 2 ? "DERIVED_SUB" : "DERIVED_POSTFIX,N0|N1|-|", k, k + count
         }
     }
 }

@@ -6,6 +6,8 @@ import re
 from dataclasses import dataclass, field
 from pathlib import Path
 
+from parts.command import Fault, read_file
+
 HEAD = re.compile(r"^(?:(?:abbrev|unfoldable) pub|pub record|pub data) (\S+)")
 USE = re.compile(r"^(?:pub |ghost )?use ([\w.]+?)(?:\.\{(.*)\})?(?: as (\w+))?;?$", re.DOTALL)
 WORD = re.compile(r"[^\s(){}\[\];,:]+")
@@ -50,7 +52,6 @@ class Module:
     definitions: dict[str, Definition] = field(default_factory=dict)
     names: dict[str, Place] = field(default_factory=dict)  # what a plain name stands for
     modules: dict[str, str] = field(default_factory=dict)  # what the word before a point stands for
-    reexported: list[str] = field(default_factory=list)
 
 
 def statements(text: str) -> list[str]:
@@ -75,8 +76,6 @@ def take_uses(module: Module, text: str) -> None:
         path, names, alias = match.groups()
         if names is None:
             module.modules[alias or path.rsplit(".", 1)[-1]] = path
-            if statement.startswith("pub "):
-                module.reexported.append(path)
             continue
         for item in filter(None, (part.strip() for part in names.split(","))):
             name, _, other = item.partition(" as ")
@@ -112,7 +111,7 @@ def sentence_of(comment: list[str]) -> str:
 def read_module(root: Path, file: Path) -> Module:
     parts = file.relative_to(root / "crates").with_suffix("").parts
     module = Module(".".join(("Rattle", *parts)), file)
-    text = file.read_text(encoding="utf-8")
+    text = read_file(str(file))
     take_uses(module, text)
     take_definitions(module, text)
     return module
@@ -209,7 +208,7 @@ class Definitions:
 
 
 def rust_item(file: Path, place: Place) -> Definition | None:
-    lines = file.read_text(encoding="utf-8").splitlines()
+    lines = read_file(str(file)).splitlines()
     head = re.compile(RUST_ITEM.format(re.escape(place.name)))
     for at, line in enumerate(lines):
         if not head.match(line):
@@ -237,14 +236,14 @@ def rust_sentence(lines: list[str], at: int) -> str:
 
 def contract_words(file: Path, function: str) -> tuple[Module, list[str]]:
     """The module that stands for a file of Rust code, with what its contracts bring in, and the words of a function's contract."""
-    text = file.read_text(encoding="utf-8")
+    text = read_file(str(file))
     module = Module(str(file), file)
     take_uses(module, text)
     head = re.search(rf"\bfn {re.escape(function)}\b", text)
     if not head:
-        raise LookupError(f"{file}: no function {function}")
+        raise Fault(f"{file}: no function {function}")
     clauses = re.search(r"\n\{\n", text[head.start():])
     if not clauses:
-        raise LookupError(f"{file}: no end of the contract of {function}")
+        raise Fault(f"{file}: no end of the contract of {function}")
     contract = text[head.start() : head.start() + clauses.start()]
     return module, WORD.findall(contract)

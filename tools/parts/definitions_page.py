@@ -6,12 +6,13 @@ import re
 from dataclasses import dataclass
 from pathlib import Path
 
-from parts.command import Fault
+from parts.command import Fault, read_file
 from parts.crate_graph import levels, read_crates
 from parts.definitions import Definition, Definitions, contract_words
 
 TOP = "crates/papi_tools/src/top.rt"
 TOP_FUNCTION = "papi_main"
+TOTAL = re.compile(r"[\d,]+ definitions of [\d,]+ lines in \d+ files, and \d+ types of [\d,]+ lines")
 ROW = re.compile(r"^\| `(\w+)`((?:, `\w+`)*) \| (.*) \|$")
 INTRODUCTION = """# Definitions
 
@@ -42,7 +43,7 @@ class Guide:
 def read_subjects(root: Path) -> dict[str, str]:
     """The table of crates of docs/ARCHITECTURE.md."""
     found = {}
-    for line in (root / "docs/ARCHITECTURE.md").read_text(encoding="utf-8").splitlines():
+    for line in read_file(str(root / "docs/ARCHITECTURE.md")).splitlines():
         row = ROW.match(line)
         if row:
             for crate in (row[1], *re.findall(r"\w+", row[2])):
@@ -69,6 +70,14 @@ def total_line(guide: Guide) -> str:
     lines = sum(it.lines for it in guide.specs)
     types = sum(it.lines for it in guide.types)
     return f"{len(guide.specs):,} definitions of {lines:,} lines in {files} files, and {len(guide.types)} types of {types:,} lines"
+
+
+def with_total(text: str, total: str) -> str:
+    """The README with this total, which it says once."""
+    text, times = TOTAL.subn(total, text)
+    if times != 1:
+        raise Fault(f"README.md has {times or 'no'} totals like: {total}")
+    return text
 
 
 def by_crate(guide: Guide) -> dict[str, list[Definition]]:

@@ -1,14 +1,15 @@
-"""The table of presets (crates/preset_csv/presets.csv), and what the sources have of it: a region of lines in each of several files."""
+"""The table of presets (crates/preset_csv/presets.csv), and what other files have of it: lines between marks, the number of presets, and lists of all."""
 
 from __future__ import annotations
 
 import re
 import textwrap
 from dataclasses import dataclass
+from itertools import takewhile
 from pathlib import Path
 from typing import Callable
 
-from parts.command import Fault
+from parts.command import Fault, read_file
 from parts.usage import ROOT
 
 TABLE = "crates/preset_csv/presets.csv"
@@ -16,6 +17,11 @@ SYMBOL = re.compile(r"PAPI_[A-Z0-9_]+")
 CODE = re.compile(r"0x8[0-9a-f]{7}")
 DESCRIPTION = re.compile(r"[A-Za-z0-9 ]+")
 BEGIN, END = "tools/make_presets: begin", "tools/make_presets: end"
+ROWS = "crates/worked_rows/data"
+LIST_HEAD = "Name          Code        Avail  Deriv  Description"
+LISTED = re.compile(r"(PAPI_\w+) +0x[0-9a-f]+  ((?:Yes|No) +(?:Yes|No) +)")
+FOLDED = "PAPI_..."
+UNAVAILABLE = "No     No     "
 
 
 @dataclass(frozen=True)
@@ -146,7 +152,86 @@ def with_region(name: str, text: str, lines: list[str]) -> str:
     return "\n".join([*old[: begins[0] + 1], *between, *old[ends[0] :]])
 
 
+# Texts with the number of presets, which stands at {n}. At {n+2} there are two user events more.
+NUMBERS: dict[str, tuple[str, ...]] = {
+    "README.md": ("| 108 presets | [{n}](",),
+    "docs/FORMATS.md": ("| a preset file | {n} symbols and ", " and {n} of PAPI's presets are known"),
+    "docs/C_PROGRAMS.md": ("The model has [{n}](",),
+    "examples/avail.expected": ("Of {n} possible events",),
+    "examples/avail_all.expected": ("Of {n} possible events",),
+    f"{ROWS}/tools.rows": ("Of {n} possible events",),
+    f"{ROWS}/preset_lists.rows": (
+        "Of {n} possible events, 1 are available,",
+        "Of {n+3} possible events, 4 are available, of which 1 are",
+        "Of {n+5} possible events, 4 are available, of which 2 are",
+    ),
+    f"{ROWS}/user_events.rows": ("Of {n+5} possible events",),
+}
+
+
+def with_number(name: str, text: str, pattern: str, number: int) -> str:
+    """The text of a file with the number of presets where the pattern has it."""
+    front, more, back = re.split(r"\{n\+?(\d*)\}", pattern)
+    place = re.compile(rf"({re.escape(front)})\d+({re.escape(back)})")
+    text, times = place.subn(rf"\g<1>{number + int(more or 0)}\g<2>", text)
+    if not times:
+        raise Fault(f"{name}: nothing reads: {pattern}")
+    return text
+
+
+# Lists of papi_avail that have all presets, each with a line that stands above the list.
+LISTINGS = {
+    "examples/avail_all.expected": LIST_HEAD,
+    f"{ROWS}/tools.rows": "row All presets.",
+    f"{ROWS}/preset_lists.rows": "row All user events stand below all presets.",
+}
+
+
+def listing_lines(presets: list[Preset], old: list[str]) -> list[str]:
+    """The lines of all presets. Each keeps what its old line says of it. One without a line is not available, or is among those of `6 times: PAPI_...`."""
+    said = {found[1]: found[2] for line in old if (found := LISTED.match(line))}
+    folded = any(line.endswith(FOLDED) for line in old)
+    lines, times = [], 0
+    for preset in presets:
+        if folded and preset.symbol not in said:
+            times += 1
+            continue
+        lines += [f"{times} times: {FOLDED}"] if times else []
+        lines.append(f"{preset.symbol:<14}{preset.code}  {said.get(preset.symbol, UNAVAILABLE)}{preset.description}")
+        times = 0
+    return lines + ([f"{times} times: {FOLDED}"] if times else [])
+
+
+def _list_below(name: str, lines: list[str], title: str) -> int:
+    """Where the list begins that stands below a line, with no empty line between."""
+    if lines.count(title) == 1:
+        for at, line in enumerate(takewhile(bool, lines[lines.index(title) :]), lines.index(title) + 1):
+            if line.strip() == LIST_HEAD:
+                return at
+    raise Fault(f"{name}: no list of presets below: {title}")
+
+
+def with_listing(name: str, text: str, title: str, presets: list[Preset]) -> str:
+    """The text of a file with all presets in the list that stands below this line."""
+    lines = text.split("\n")
+    begin = _list_below(name, lines, title)
+    old = list(takewhile(lambda line: LISTED.match(line) or line.endswith(FOLDED), (line.strip() for line in lines[begin:])))
+    indent = " " * lines[begin - 1].index(LIST_HEAD)
+    return "\n".join([*lines[:begin], *(indent + line for line in listing_lines(presets, old)), *lines[begin + len(old) :]])
+
+
+MADE = tuple({**REGIONS, **LISTINGS, **NUMBERS})
+
+
 def made_texts(root: Path = ROOT) -> dict[str, str]:
     """Each file as it is to be."""
-    presets = read_presets((root / TABLE).read_text(encoding="utf-8"))
-    return {name: with_region(name, (root / name).read_text(encoding="utf-8"), lines(presets)) for name, lines in REGIONS.items()}
+    presets = read_presets(read_file(str(root / TABLE)))
+    texts = {name: read_file(str(root / name)) for name in MADE}
+    for name, lines in REGIONS.items():
+        texts[name] = with_region(name, texts[name], lines(presets))
+    for name, title in LISTINGS.items():
+        texts[name] = with_listing(name, texts[name], title, presets)
+    for name, patterns in NUMBERS.items():
+        for pattern in patterns:
+            texts[name] = with_number(name, texts[name], pattern, len(presets))
+    return texts

@@ -2,6 +2,7 @@
 
 from __future__ import annotations
 
+import re
 import subprocess
 import tempfile
 import unittest
@@ -10,8 +11,11 @@ from pathlib import Path
 from tests.support import ROOT
 
 
-def said_of(code: str = "", definition: str = "", proof: str = "") -> str:
-    """What the check says of a crate with this code, this definition and this proof, if there is one."""
+PRESETS = int(re.findall(r"PRESETS: u32 = ([0-9]+);", (ROOT / "crates/preset_csv/src/symbols.rt").read_text(encoding="utf-8"))[0])
+
+
+def said_of(code: str = "", definition: str = "", proof: str = "", presets: int | None = None) -> str:
+    """What the check says of a crate with this code, this definition and this proof, if there is one, beside a table with so many presets, if it has one."""
     with tempfile.TemporaryDirectory() as folder:
         for part, name, text in (("src", "lib.rt", code), ("specs", "Lib.antt", definition), ("proofs", "Some.antt", proof)):
             if part == "proofs" and not text:
@@ -19,6 +23,10 @@ def said_of(code: str = "", definition: str = "", proof: str = "") -> str:
             path = Path(folder, "crates/some", part)
             path.mkdir(parents=True)
             (path / name).write_text(text + "\n", encoding="utf-8")
+        if presets is not None:
+            table = Path(folder, "crates/preset_csv/src/symbols.rt")
+            table.parent.mkdir(parents=True)
+            table.write_text(f"pub const PRESETS: u32 = {presets};\n", encoding="utf-8")
         return subprocess.run([str(ROOT / "checks/clauses"), folder], capture_output=True, text=True).stdout
 
 
@@ -43,10 +51,21 @@ class BareLimits(unittest.TestCase):
             self.assertEqual(said_of(f"    ensures {clause}"), "2 passed, 0 failed\n", clause)
 
     def test_a_proof_has_no_number_of_presets_and_no_power_of_the_widest_counter(self) -> None:
-        for proof, number in (("long : length rows ≡ 26", "26"), ("none book 26", "26"), ("small : n < 2 ^ 48", "2 ^ 48")):
+        for proof, number in ((f"long : length rows ≡ {PRESETS}", PRESETS), (f"none book {PRESETS}", PRESETS), ("small : n < 2 ^ 48", "2 ^ 48")):
             self.assertEqual(said_of(proof=proof), f"crates/some/proofs/Some.antt:1: {number} is a bare limit\n2 passed, 1 failed\n", proof)
-        for proof in ("long : length rows ≡ PRESETS", "-- the 26 presets", "digits : n < 2 ^ 32", "at-26 = refl"):
+        for proof in ("long : length rows ≡ PRESETS", f"-- the {PRESETS} presets", "digits : n < 2 ^ 32", f"at-{PRESETS} = refl"):
             self.assertEqual(said_of(proof=proof), "3 passed, 0 failed\n", proof)
+
+    def test_the_number_of_presets_is_that_of_the_table(self) -> None:
+        for presets in (27, 29):
+            self.assertIn(f":1: {presets} is a bare limit\n2 passed, 1 failed", said_of(proof=f"small : i < {presets}", presets=presets))
+        self.assertEqual(said_of(proof="small : i < 26", presets=27), "3 passed, 0 failed\n")
+
+    def test_a_number_that_is_also_another_one_is_refused_beside_presets_alone(self) -> None:
+        for proof in ("length t.rows ≡ 32", "32 ≤ length t.rows", "replicate 32 entry.Missing", "replicate 32 (entry.Given x)", "row < 32", "none book 32", "(length preset_rows) ≡ 32"):
+            self.assertIn(":1: 32 is a bare limit\n2 passed, 1 failed", said_of(proof=f"  pub some : {proof} → One", presets=32), proof)
+        for proof in ("length t ≡ 32", "32 ≤ length t", "replicate 32 false", "i < 32", "get_or t 10 0 ≡ 32", "length rows ≡ 320"):
+            self.assertEqual(said_of(proof=f"  pub some : {proof} → One", presets=32), "3 passed, 0 failed\n", proof)
 
 
 class WideClauses(unittest.TestCase):

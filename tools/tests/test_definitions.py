@@ -2,11 +2,14 @@
 
 from __future__ import annotations
 
+import shutil
+import subprocess
 import unittest
 
 from parts.command import Fault
+from parts.definitions import statements
 from parts.definitions_page import guide_page, read_guide, total_line
-from tests.support import InFolder
+from tests.support import TOOLS, InFolder
 
 TOP = """ghost use Rattle.papi_tools.specs.Top.{Good};
 use low::Kind;
@@ -68,6 +71,37 @@ class Definitions(InFolder):
         self.assertEqual({it.place.name for it in guide.definitions}, {"Good", "number", "twice", "Kind", "MOST"})
         self.assertEqual(total_line(guide), "3 definitions of 7 lines in 2 files, and 2 types of 5 lines")
 
+    def test_a_use_may_take_several_lines(self) -> None:
+        self.assertEqual(statements("use a.{b,\n  c,\n}\nx\nghost use d;\n"), ["use a.{b, c, }", "ghost use d;"])
+
+    def test_the_page_is_written_and_looked_at(self) -> None:
+        """In a repository that has the tool. The README has the total too."""
+        shutil.copytree(TOOLS, self.folder / "tools", ignore=shutil.ignore_patterns("tests"))
+        total = total_line(read_guide(self.folder))
+
+        def run(*words: str) -> tuple[int, str, str]:
+            done = subprocess.run([str(self.folder / "tools/make_definitions"), *words], capture_output=True, text=True)
+            return done.returncode, done.stdout, done.stderr
+
+        def old(name: str) -> tuple[int, str, str]:
+            return 1, "", f"make_definitions: {name} is out of date (tools/make_definitions)\n"
+
+        stale = "All is 1,003 definitions of 10 lines in 12 files, and 1 types of 1,002 lines.\n"
+        self.write("README.md", stale)
+        self.assertEqual(run("--check"), old("docs/DEFINITIONS.md"))
+        self.assertEqual(run(), (0, f"{total}\n", ""))
+        self.assertEqual((self.folder / "docs/DEFINITIONS.md").read_text(encoding="utf-8"), guide_page(read_guide(self.folder)))
+        self.assertEqual((self.folder / "README.md").read_text(encoding="utf-8"), f"All is {total}.\n")
+        self.assertEqual(run("--check"), (0, "", ""))
+        for name, text in (("README.md", stale), ("docs/DEFINITIONS.md", "old\n")):
+            self.write(name, text)
+            self.assertEqual(run("--check"), old(name))
+            self.assertEqual((self.folder / name).read_text(encoding="utf-8"), text)
+            self.assertEqual(run(), (0, f"{total}\n", ""))
+        for text, times in (("nothing\n", "no"), (stale + stale, "2")):
+            self.write("README.md", text)
+            self.assertEqual(run(), (1, "", f"make_definitions: README.md has {times} totals like: {total}\n"))
+
     def test_a_row_has_the_sentence_the_place_and_the_lines(self) -> None:
         page = guide_page(read_guide(self.folder))
         self.assertIn("| [`Good`](../crates/papi_tools/specs/Top.antt#L8) | The number is that of the kind | 2 |", page)
@@ -84,6 +118,15 @@ class Definitions(InFolder):
     def test_a_contract_that_cites_nothing_is_refused(self) -> None:
         self.write("crates/papi_tools/src/top.rt", TOP.replace("Good k result", "result"))
         with self.assertRaisesRegex(Fault, "cites no definition"):
+            read_guide(self.folder)
+
+    def test_a_source_without_the_contract_is_told(self) -> None:
+        for old, new, said in (("fn papi_main", "fn other", "no function papi_main"), ("\n{\n", "\n", "no end of the contract of papi_main")):
+            self.write("crates/papi_tools/src/top.rt", TOP.replace(old, new))
+            with self.assertRaisesRegex(Fault, f"top.rt: {said}$"):
+                read_guide(self.folder)
+        (self.folder / "crates/papi_tools/src/top.rt").write_bytes(b"\xff")
+        with self.assertRaisesRegex(Fault, "top.rt: not a text file$"):
             read_guide(self.folder)
 
 

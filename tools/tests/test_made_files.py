@@ -1,4 +1,4 @@
-"""tools/make_pages and tools/make_fortran over a copy of the repository: what is out of date is told and written again, and nothing else."""
+"""The programs that make files, over a copy of the repository: what is out of date is told and written again, and nothing else."""
 
 from __future__ import annotations
 
@@ -6,7 +6,8 @@ import shutil
 import subprocess
 from pathlib import Path
 
-from tests.support import ROOT, InFolder, needs_command
+from parts.preset_table import BEGIN, MADE, NUMBERS, REGIONS, TABLE, with_number
+from tests.support import ROOT, InFolder, needs_command, some
 
 
 class Made(InFolder):
@@ -23,7 +24,7 @@ class Made(InFolder):
         done = subprocess.run([str(self.folder / "tools" / tool), *words], capture_output=True, text=True)
         return done.returncode, done.stdout, done.stderr
 
-    def check(self, tool: str, made: Path) -> None:
+    def check(self, tool: str, made: Path, writes: str = "writes them") -> None:
         """One that is changed is told, stays as it is, and is written again without --check. So is one that is gone."""
         name, whole = str(made.relative_to(self.folder)), made.read_bytes()
         self.assertEqual(self.run_tool(tool, "--check"), (0, "", ""))
@@ -31,7 +32,7 @@ class Made(InFolder):
             made.unlink()
             if content is not None:
                 made.write_bytes(content)
-            self.assertEqual(self.run_tool(tool, "--check"), (1, "", f"{tool}: out of date: {name} (tools/{tool} writes them)\n"))
+            self.assertEqual(self.run_tool(tool, "--check"), (1, "", f"{tool}: out of date: {name} (tools/{tool} {writes})\n"))
             self.assertEqual(made.read_bytes() if made.exists() else None, content)
             self.assertEqual(self.run_tool(tool), (0, "", ""))
             self.assertEqual(made.read_bytes(), whole)
@@ -42,6 +43,30 @@ class Made(InFolder):
         shutil.rmtree(self.folder / "man")
         self.assertEqual(self.run_tool("make_pages"), (0, "", ""))
         self.check("make_pages", self.folder / "man/papi_run.1")
+
+    def test_limits_for_c(self) -> None:
+        self.copy("c/limits.h", *(f"crates/{crate}/src/limits.rt" for crate in ("papi_base", "papi_tools", "stream_reader")))
+        self.check("make_limits", self.folder / "c/limits.h", "writes it")
+
+    def test_tables_of_presets(self) -> None:
+        self.copy(TABLE, *(name for name in MADE if not name.startswith("bin/hints")))
+        self.assertEqual(self.run_tool("make_presets", "--check"), (0, "", ""))
+        whole = {name: (self.folder / name).read_bytes() for name in some(REGIONS)}
+        for name, content in whole.items():
+            head, mark, rest = content.partition(BEGIN.encode())
+            line, end, rest = rest.partition(b"\n")
+            changed = head + mark + line + end + b"x\n" + rest
+            (self.folder / name).write_bytes(changed)
+            self.assertEqual(self.run_tool("make_presets", "--check"), (1, "", f"make_presets: out of date: {name} (tools/make_presets writes them)\n"))
+            self.assertEqual((self.folder / name).read_bytes(), changed)
+            self.assertEqual(self.run_tool("make_presets"), (0, "", ""))
+            self.assertEqual((self.folder / name).read_bytes(), content)
+        texts = {name: (self.folder / name).read_text(encoding="utf-8") for name in MADE if name in some(NUMBERS)}
+        for name, text in texts.items():
+            (self.folder / name).write_text(with_number(name, text, NUMBERS[name][-1], 999), encoding="utf-8")
+        self.assertEqual(self.run_tool("make_presets", "--check"), (1, "", f"make_presets: out of date: {', '.join(texts)} (tools/make_presets writes them)\n"))
+        self.assertEqual(self.run_tool("make_presets"), (0, "", ""))
+        self.assertEqual({name: (self.folder / name).read_text(encoding="utf-8") for name in texts}, texts)
 
     @needs_command("cc", "a C compiler")
     def test_headers_for_fortran(self) -> None:

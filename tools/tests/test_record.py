@@ -17,7 +17,7 @@ from parts.codes import RECORDED, SKYLAKE, codes_of
 from parts.command import Fault
 from parts.machine import MACHINES, Shape, read_buffer, read_cache, read_costs, read_predictor
 from parts.ranks import of_rank
-from tests.support import ROOT, TOOLS, InFolder, all_of, needs_command, needs_libpfm4, needs_program, run_program, run_tool
+from tests.support import ROOT, TOOLS, InFolder, all_of, needs_command, needs_libpfm4, needs_program, run_program, run_tool, some
 
 
 class Words(unittest.TestCase):
@@ -203,11 +203,12 @@ class RealProgram(InFolder):
 
 @needs_program
 class Presets(unittest.TestCase):
-    def test_all_presets_and_user_events_are_available(self) -> None:
+    def test_each_preset_and_user_event_of_the_file_is_available(self) -> None:
+        rows = (ROOT / "examples/recorded.presets").read_text(encoding="utf-8").splitlines()
+        names = [row.split(",")[1] for row in rows if row.startswith(("PRESET,", "EVENT,"))]
         listed = run_program("papi_avail", "-U", str(ROOT / "examples/recorded.unit"), "-P", str(ROOT / "examples/recorded.presets"), "-C", "recorded")
         events = [line.split() for line in listed.stdout.splitlines() if " 0x" in line]
-        self.assertGreaterEqual(len(events), 26)
-        self.assertEqual([event[0] for event in events if event[2] != "Yes"], [])
+        self.assertEqual([event[0] for event in events if event[2] == "Yes"], some(names))
 
 
 @needs_command("valgrind", "valgrind")
