@@ -43,7 +43,7 @@ TITLES = {"COMPONENT": "name,pmu", "COUNTER": "name,width,P", "EVENT": "name,sel
 TITLES |= {"UMASK_COUNTERS": "counters", "UMASK_MODIFIERS": "flags,least amount", "RANGE": "name,START,WIDTH,BUCKETS"}
 MOST_OF_UNIT = {"COMPONENT": "16 components", "COUNTER": "32 counters of a component", "EVENT": "1,024 events of a component", "UMASK": "16 umasks of an event"}
 MOST_NATIVES = 8
-TOKENS_TAKE = {"+": 2, "-": 2, "*": 2, "/": 2}
+OPERATORS = ("+", "-", "*", "/")  # each takes two values
 
 
 def form_fault(row: Row, forms: Mapping[str, tuple[tuple[str, str, str], ...]]) -> str:
@@ -201,7 +201,7 @@ def formula_fault(formula: str, natives: int) -> str:
             waiting += 1
         elif re.fullmatch(r"[0-9]+", token):
             waiting += 1
-        elif token not in TOKENS_TAKE:
+        elif token not in OPERATORS:
             return f"{shown(token)} is no token; wanted: N0, N1 .., a number, + - * or /, each ended by |"
         elif waiting < 2:
             return f"the {token} has {waiting} value{'' if waiting == 1 else 's'} before it, and takes two"

@@ -57,6 +57,7 @@ take_stream() {
 
 # shellcheck disable=SC2016
 PATTERNS='
+function put(set, name) { set[name] = 1 }
 function trim(text) { gsub(/^[ \t]+|[ \t\r]+$/, "", text); return text }
 function number_of(text,  value, at) {
     text = tolower(text)
@@ -84,7 +85,7 @@ function mask_pattern(mask,  high, low, all) {
 # A text that names a native event: what it asks for.
 function want(text,  parts, count, at, rest) {
     if (text in wanted) return
-    wanted[text] = 1
+    put(wanted, text)
     rest = toupper(text)
     if (index(rest, ":::")) { print "?"; return }
     at = index(rest, "::")
@@ -100,15 +101,13 @@ function read_row(line, to) { return split(line, to, ",") }
 function read_names(  line, f, count, at, names) {
     if (ENVIRON["KL_TOOL"] == "papi_regions") {
         count = split(ENVIRON["KL_EVENTS"], names, ",")
-        for (at = 1; at <= count; at++) named[names[at]] = 1
+        for (at = 1; at <= count; at++) put(named, names[at])
         return
     }
     while ((getline line < ENVIRON["KL_SCRIPT"]) > 0) {
-        sub(/\r$/, "", line)
         if (line ~ /^#/) continue
-        count = split(line, f, /[ \t]+/)
-        if (f[1] == "") for (at = 1; at < count; at++) f[at] = f[at + 1]
-        if (f[2] == "add") named[f[4]] = 1
+        split(trim(line), f, /[ \t]+/)
+        if (f[2] == "add") put(named, f[4])
     }
 }
 function read_presets(  line, f, count, at, kind, in_group, ends) {
@@ -145,7 +144,8 @@ function read_unit(  line, f, component, pmu, count, at, here, has_here) {
             has_here = 0
             for (at = 1; at <= count; at++) {
                 if ((here[at] in found) || (pmu_of[here[at]] != "" && pmu_of[here[at]] != pmu)) { here[at] = ""; continue }
-                has_here = found[here[at]] = 1
+                put(found, here[at])
+                has_here = 1
                 select_of[here[at]] = pmu ~ /^(SKL|SKX|CLX)$/ ? tolower(trim(f[3])) : ""
                 amounts[here[at]] = attributes[here[at]] ~ /:C=/
                 heads[here[at]] = component "." digit(int(number_of(trim(f[3])) / 16)) digit(number_of(trim(f[3])) % 16)

@@ -42,7 +42,9 @@ with_hints() {
     tool=$1
     set_telling
     caught="" process="" folder=""
-    trap 'rm -rf -- "$folder"' EXIT
+    trap remove_folder EXIT
+    # The shell may say on standard error that a signal ended what it has started, and nobody may read that.
+    trap : PIPE
     for signal in HUP INT QUIT TERM; do
         # shellcheck disable=SC2064
         trap "caught=$signal; stop_program" "$signal"
@@ -97,6 +99,12 @@ make_folder() {
         printf %s "$made"
         exec mkfifo -- "$made/out" "$made/err" "$made/copy"
     )
+}
+
+# A signal to all that runs would end what removes it too.
+remove_folder() {
+    trap '' HUP INT QUIT TERM
+    rm -rf -- "$folder"
 }
 
 run_unwatched() {
@@ -222,7 +230,7 @@ end_all() {
 
 end_if_caught() {
     [ -n "$caught" ] || return 0
-    rm -rf -- "$folder"
+    remove_folder
     trap - EXIT "$caught"
     kill -s "$caught" "$$"
     # Some shells do not end by each signal.
@@ -262,7 +270,7 @@ add_hints() {
 
 # Whether a line was found beside those of values, or a value may lack its lines.
 tells_more() {
-    [ -n "$values" ] && ! grep -E -q -v -e "$values" "$folder/told" || return 0
+    [ -n "$values" ] && ! grep -E -q -v -e "$values" -- "$folder/told" || return 0
     . "$hints/silent.sh"
     may_be_silent "$@"
 }
@@ -270,7 +278,7 @@ tells_more() {
 be_strict() {
     [ "$status" = 0 ] || return 0
     case $tool in
-    papi_run) ! grep -E -q -e "$telling" "$folder/told" || status=1 ;;
+    papi_run) ! grep -E -q -e "$telling" -- "$folder/told" || status=1 ;;
     papi_profil) ! run_again "$@" | grep -E -q -e ' PAPI_E' || status=1 ;;
     esac
     [ -z "$is_silent" ] || status=1
