@@ -34,6 +34,12 @@ class Change:
         old = content[self.begin : self.end].decode("utf-8", "replace")
         return f"{self.file}:{self.line}: {self.kind}: {short(old)} -> {short(self.new) or '(nothing)'}"
 
+    def named(self, content: bytes) -> str:
+        """What it is called in mutants.reasons: by the text of its line, since the line's number changes."""
+        old = content[self.begin : self.end].decode("utf-8", "replace")
+        line = content.splitlines()[self.line - 1].decode("utf-8", "replace")
+        return f"{self.file}: {short(line)}: {short(old)} -> {short(self.new) or '(nothing)'}"
+
 
 def short(text: str) -> str:
     one = " ".join(text.split())

@@ -31,7 +31,7 @@ def _all(pattern: str, *, but: tuple[str, ...] = ()) -> tuple[str, ...]:
     return tuple(sorted(str(path.relative_to(ROOT)) for path in ROOT.glob(pattern) if path.name not in ("__init__.py", *but)))
 
 
-_SCRIPTS = "test_hints_running test_progress test_unproved test_endings.Scripts"
+_SCRIPTS = "test_silent test_hints_running test_progress test_unproved test_endings.Scripts"
 PARTS = {
     "endings": Part(_parts("command", "quiet"), "test_command test_plot test_endings"),
     "plot": Part(("tools/plot", *_parts("chart", "profile", "xml_text")), "test_plot test_endings.Texts test_endings.Streams"),
@@ -41,7 +41,7 @@ PARTS = {
     "make_map": Part(("tools/make_map", *_parts("map_file", "symbols", "stream_head")), "test_make_map test_endings.Texts"),
     "make_fortran": Part(("tools/make_fortran", *_parts("c_header", "c_probe", "compiler", "fortran_header")), "test_c_header test_made_files test_endings.Compilers test_endings.Signals"),
     "make_pages": Part(("tools/make_pages", *_parts("usage", "tools_page", "manual_page", "command_page")), "test_make_pages test_made_files", ("tools/make_pages", "--check")),
-    "make_unit": Part(("tools/make_unit", *_parts("event_counters", "left_out", "libpfm4", "linux_source", "perf_events", "unit_file", "unit_of_pmu")),
+    "make_unit": Part(("tools/make_unit", *_parts("event_counters", "left_out", "libpfm4", "linux_source", "perf_events", "preset_umasks", "unit_file", "unit_of_pmu")),
                       "test_make_unit test_endings.EventFiles", is_pure=False),
     "made": Part(("tools/make_definitions", "tools/make_limits", "tools/make_presets", *_parts("definitions", "definitions_page", "preset_table")),
                  "test_definitions test_make_presets test_made_files test_endings.Texts"),
