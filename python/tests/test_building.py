@@ -3,6 +3,7 @@
 from __future__ import annotations
 
 import base64
+import email
 import hashlib
 import importlib.util
 import subprocess
@@ -38,6 +39,18 @@ class Building(unittest.TestCase):
                 self.assertIn((digest, size), [(f"sha256={wanted}", str(len(data))), ("", "")], path)
         modules = {f"kistalub/{path.name}" for path in (ROOT / "python/kistalub").glob("*.py")}
         self.assertLessEqual(modules | {"kistalub/py.typed", "kistalub/VERSION"}, set(recorded))
+
+    def test_what_is_told_of_the_module(self) -> None:
+        with zipfile.ZipFile(Path(self.folder) / building.build_wheel(self.folder)) as wheel:
+            told = email.message_from_bytes(wheel.read(f"kistalub-{VERSION}.dist-info/METADATA"))
+        fields = {"Metadata-Version": "2.1", "Name": "kistalub", "Version": VERSION, "Summary": "Event sets of PAPI over modelled counters", "License": "BSD-3-Clause",
+                  "Requires-Python": ">=3.9", "Description-Content-Type": "text/markdown"}
+        self.assertEqual(dict(told.items()), fields)
+        self.assertEqual(told.get_payload(), (ROOT / "docs/PYTHON.md").read_text(encoding="utf-8"))
+
+    def test_there_is_no_archive_of_sources(self) -> None:
+        with self.assertRaisesRegex(NotImplementedError, "the sources are the repository itself"):
+            building.build_sdist(self.folder)
 
     def test_the_same_files_give_the_same_wheel(self) -> None:
         first = (Path(self.folder) / building.build_wheel(self.folder)).read_bytes()

@@ -136,6 +136,11 @@ class Beginning(OverLibrary):
             ran = self.run_python("-c", f"import kistalub\n{quiet.format(str(UNIT))}")
             self.assertEqual((ran.returncode, ran.stderr), (0, ""), quiet)
 
+    def test_a_number_of_a_thread_that_is_none(self) -> None:
+        for number in (-1, 1 << 32):
+            with self.assertRaisesRegex(ValueError, f"^not a number of a thread: {number}$"):
+                kistalub.thread(number)
+
     def test_a_set_without_one_says_what_to_do(self) -> None:
         with self.assertRaises(kistalub.ENOINIT) as raised:
             kistalub.EventSet("INST_RETIRED")

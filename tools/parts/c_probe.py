@@ -33,7 +33,7 @@ def probe(header: str, folder: Path | None, rows: dict[str, str]) -> dict[str, s
             lines = [f'#include <{header}>', "#include <stddef.h>", "#include <stdio.h>", "#include <string.h>", CONSTANT.strip(), "int main(void) {"]
             first = "\n".join(lines).count("\n") + 2
             lines += [f'printf("{name}\\t"); {statement}; putchar(10);' for name, statement in left.items()]
-            source.write_text("\n".join([*lines, "return 0;", "}", ""]), encoding="utf-8")
+            source.write_text("\n".join([*lines, "}", ""]), encoding="utf-8")
             done = run_compiler("-std=gnu11", "-w", "-fmax-errors=0", *where, str(source), "-o", str(program))
             if done.returncode == 0:
                 return _answers(header, program)

@@ -62,8 +62,8 @@ class Node:
 
     name: str
     level: int
-    up: list[Node] = field(default_factory=list, repr=False)
-    down: list[Node] = field(default_factory=list, repr=False)
+    up: list[Node] = field(default_factory=list)
+    down: list[Node] = field(default_factory=list)
     x: float = 0.0
 
     @property

@@ -6,7 +6,7 @@ import re
 from pathlib import Path
 from typing import Iterator
 
-from parts.command import Fault
+from parts.command import Fault, read_file
 
 FORTRAN_HEADERS = ("f77papi.h", "f90papi.h", "fpapi.h")
 LEAST = -(2**31)
@@ -56,7 +56,7 @@ CONSTANT = re.compile(
 def read_constants(path: Path) -> dict[str, int]:
     """The constants of such a file."""
     constants: dict[str, int] = {}
-    for line in path.read_text(encoding="utf-8").splitlines():
+    for line in read_file(str(path)).splitlines():
         found = CONSTANT.match(line)
         if found:
             name, value = (part for part in found.groups() if part is not None)

@@ -13,7 +13,7 @@ ELSEWHERE = re.compile(r"[a-z][a-z0-9+.-]*:")
 def leads_somewhere(target: str, document: Path) -> bool:
     """Whether the file of a link is there. Links within a document, and those to other places of the world, are taken as they are."""
     file = target.partition("#")[0]
-    return not file or bool(ELSEWHERE.match(target)) or (document.parent / file).exists()
+    return not file or ELSEWHERE.match(target) is not None or (document.parent / file).exists()
 
 
 def without_dead_links(text: str, document: Path) -> str:

@@ -2,7 +2,14 @@
 
 from __future__ import annotations
 
+import sys
 from dataclasses import dataclass, field
+
+from tests.support import ROOT
+
+sys.path.append(str(ROOT / "bin/hints"))
+
+from presets import SYMBOLS
 
 UNIT = "COMPONENT,core,mine\nCOUNTER,C0,32,P\nCOUNTER,C1,32,P\nEVENT,INSTRUCTIONS,c0,C0 C1,Instructions\nEVENT,LOADS,d0,C1,Loads\n"
 UMASKS = "UMASK,ALL,03,d,All loads\nUMASK,MISSES,02,n,Loads that miss\nEVENT,STORES,d1,C0,Stores\nUMASK,HITS,01,-,Hits\nUMASK,MISSES,02,-,Misses\n"
@@ -196,7 +203,7 @@ ANSWERS = (
            'the unit has none of the presets of other: PAPI_TOT_INS is not available: the unit has no pmu "lab" (there is: mine)',
            p="CPU,other\nPRESET,PAPI_TOT_INS,NOT_DERIVED,lab::X\n"),
     answer("a preset that the program does not know, with a row", "papi_avail -U u -P p -C small -e PAPI_FP_INS", 1,
-           "PAPI_FP_INS is none of the 26 presets that the program knows; tools/preset_rows makes the user event FP_INS of its row in the preset file",
+           f"PAPI_FP_INS is none of the {len(SYMBOLS)} presets that the program knows; tools/preset_rows makes the user event FP_INS of its row in the preset file",
            p=PRESETS + "PRESET,PAPI_FP_INS,NOT_DERIVED,LOADS\n"),
     answer("rows of presets that the program does not know alone", "papi_avail -U u -P p -C small", 0,
            "the preset file has no row for the processor small that the program knows; of its 2 rows of other presets tools/preset_rows makes user events",
@@ -237,12 +244,12 @@ REFUSALS = (
     refused("an unknown event in a script", "papi_run -U u s t", "0 create\n0 add 0 INSTRUCTION\n0 add 0 LOADS\n", "2 0 add PAPI_ENOEVNT",
             'line 2: add 0 INSTRUCTION: Event does not exist: the unit has no event "INSTRUCTION" (near: INSTRUCTIONS)'),
     refused("a preset that is not known", "papi_run -U u -P p -C small s t", "0 create\n0 add 0 PAPI_L3_TCA\n", "2 0 add PAPI_ENOEVNT",
-            "line 2: add 0 PAPI_L3_TCA: Event does not exist: PAPI_L3_TCA is none of the 26 presets that the program knows (near: PAPI_L3_TCM, PAPI_L2_TCM, PAPI_L1_TCM)"),
+            f"line 2: add 0 PAPI_L3_TCA: Event does not exist: PAPI_L3_TCA is none of the {len(SYMBOLS)} presets that the program knows (near: PAPI_L3_TCM, PAPI_L2_TCM, PAPI_L1_TCM)"),
     refused("a preset that is not known, with a row", "papi_run -U u -P p -C small s t", "0 create\n0 add 0 PAPI_FP_INS\n", "2 0 add PAPI_ENOEVNT",
-            "line 2: add 0 PAPI_FP_INS: Event does not exist: PAPI_FP_INS is none of the 26 presets that the program knows; tools/preset_rows makes the user event FP_INS of its row "
+            f"line 2: add 0 PAPI_FP_INS: Event does not exist: PAPI_FP_INS is none of the {len(SYMBOLS)} presets that the program knows; tools/preset_rows makes the user event FP_INS of its row "
             "in the preset file", p=PRESETS + "PRESET,PAPI_FP_INS,NOT_DERIVED,LOADS\n"),
     refused("a preset that is not known, with a user event", "papi_run -U u -P p -C small s t", "0 create\n0 add 0 PAPI_BOTH\n", "2 0 add PAPI_ENOEVNT",
-            "line 2: add 0 PAPI_BOTH: Event does not exist: PAPI_BOTH is none of the 26 presets that the program knows; the preset file has the user event BOTH"),
+            f"line 2: add 0 PAPI_BOTH: Event does not exist: PAPI_BOTH is none of the {len(SYMBOLS)} presets that the program knows; the preset file has the user event BOTH"),
     refused("umasks that cannot be combined", "papi_run -U u s t", "0 create\n0 add 0 LOADS:ALL:MISSES\n", "2 0 add PAPI_ECOMBO",
             "line 2: add 0 LOADS:ALL:MISSES: Bad combination of features: the umasks ALL and MISSES of mine::LOADS cannot be combined"),
     refused("a threshold that is too small", "papi_run -U u s t", "0 create\n0 add 0 LOADS\n0 overflow 0 LOADS 200\n", "3 0 overflow PAPI_EINVAL",

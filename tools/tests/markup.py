@@ -9,7 +9,7 @@ ELEMENTS = frozenset(
     "a b body br button code dd details div dl dt em figcaption figure footer h1 h2 h3 head header html i kbd li main meta nav ol p pre script section small span strong "
     "style sub summary sup table tbody td th thead title tr ul circle defs g line path polyline rect svg text tspan".split())
 MAY_BE_EMPTY = ("data-", "open")  # how the names of attributes begin
-UNSTYLED = {"bar", "matrix", "ratios", "totals", "tree"}  # classes by which something is found
+UNSTYLED = {"bar", "matrix", "totals", "tree"}  # classes by which something is found
 VALUES = {"text-anchor": {"start", "middle", "end"}, "role": {"img", "group"}, "type": {"button"}, "aria-pressed": {"true", "false"}, "lang": {"en"}, "charset": {"utf-8"}}
 TAG = re.compile(r'<(/?)([A-Za-z][A-Za-z0-9]*)((?: [A-Za-z][\w:-]*="[^"<>]*")*)(/?)>')
 
@@ -31,11 +31,14 @@ def outside(picture: str) -> list[str]:
 
 
 def faults_of_table(table: str) -> list[str]:
-    """Rows that have not as many cells as the head, and cells whose label is not what stands above them."""
+    """Rows that have not as many cells as the head, and cells whose label is not what stands above them. On a narrow page such a head is not shown (`stack`)."""
     heads = re.findall(r"<th(?: [^>]*)?>([^<]*)</th>", table)
+    is_stack = re.match(r'<table class="[^"]*\bstack\b', table)
     faults = []
     for row in re.findall(r"<tr.*?</tr>", table, re.DOTALL)[1:]:
         cells = re.findall(r"<td((?: [^>]*)?)>", row)
+        alone = [content for attributes, content in re.findall(r"<td((?: [^>]*)?)>(.*?)</td>", row, re.DOTALL) if not re.search(r' data-label=| class="main"', attributes)]
+        faults += [f"no label stands beside {content}" for content in alone if content and is_stack]
         faults += [] if len(cells) == len(heads) else [f"a row has {len(cells)} cells below {len(heads)} heads"]
         labels = [re.findall(r' data-label="([^"]*)"', cell) for cell in cells]
         faults += [f"below {head} stands {found[0]}" for head, found in zip(heads, labels) if found and found[0] != head]

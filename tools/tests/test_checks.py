@@ -135,6 +135,13 @@ class Mutants(InFolder):
         self.assertEqual([programs.near(file, line) for file, line in (("c/a.c", 3), ("c/a.c", 5), ("c/a.c", 1), ("c/b.c", 1))],
                          [["one", "silent"], ["silent"], ["one", "two", "silent"], ["silent"]])
 
+    def test_each_reason_is_of_a_change_that_is_made(self) -> None:
+        names = [line.rpartition("  # ")[0] for line in (ROOT / "checks/mutants.reasons").read_text(encoding="utf-8").splitlines()]
+        files = sorted({name.partition(": ")[0] for name in some(names)})
+        made = {change.named((ROOT / file).read_bytes()) for file in files for change in changes_of(ROOT, file)}
+        self.assertEqual([name for name in names if name not in made], [])
+        self.assertEqual(names, list(dict.fromkeys(names)))
+
     def test_the_changes_of_a_file(self) -> None:
         self.write("some.py", "def f(a, b):\n    if a < b:\n        g(a, b)\n    return 1\n")
         found = sorted({(change.line, change.kind, change.new) for change in changes_of(self.folder, "some.py")})

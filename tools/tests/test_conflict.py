@@ -5,7 +5,7 @@ from __future__ import annotations
 import unittest
 from xml.etree import ElementTree
 
-from parts.report.matrix import Picture, Row, draw_alone
+from parts.report.matrix import MARGIN, Picture, Row, draw_alone
 from parts.report.unit_counters import Counter
 from refusals import why_not
 from tests.support import ROOT, needs_program, run_tool
@@ -42,6 +42,18 @@ class Drawing(unittest.TestCase):
         self.assertEqual(texts(picture, "m-name"), ["B", "A", "bb", "cc", "<a>&<a>&"])  # each name stands in its title too
         self.assertEqual((places(picture, "m-won"), places(picture, "m-fight"), places(picture, "m-held")), (["b has B"], ["c may have B"], ["<a>& has A"]))
         self.assertEqual(texts(picture, "m-bold"), ["<t>", "B", "2 events", "1 counter"])
+
+    def test_a_title_and_a_line_have_a_margin_on_both_sides(self) -> None:
+        for title, lines, wide in (("t" * 100, ("one",), 860), ("t", ("one", "l" * 200), 1340)):
+            root = ElementTree.fromstring(draw_alone(Picture([Counter("A", "16", False)], [Row("a", ("A",), "A")], title=title, lines=lines)))
+            self.assertEqual(root.get("width"), str(2 * MARGIN + wide))
+
+    def test_there_is_room_below_for_what_is_told_of_counters(self) -> None:
+        def height(*marked: str, is_blamed: bool = True) -> int:
+            rows = [Row("a", ("A",), None, "", is_blamed)]
+            return int(ElementTree.fromstring(draw_alone(Picture([Counter("A", "16", False)], rows, marked, title="t"))).get("height", ""))
+
+        self.assertEqual((height("A") - height(), height(is_blamed=False) - height()), (38, 0))
 
 
 @needs_program

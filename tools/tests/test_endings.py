@@ -203,12 +203,17 @@ class Texts(Ending):
             self.assertEqual(self.shell('$tools/make_map --base "$1" /bin/sh', number).returncode, 2)
 
 
+def end_by_signals() -> None:
+    """What ends a process does so, also where these tests run without a terminal and ignore it."""
+    for number in (signal.SIGINT, signal.SIGTERM, signal.SIGHUP):
+        signal.signal(number, signal.SIG_DFL)
+
+
 class Signals(Ending):
     def end(self, number: int, *words: str, **variables: str) -> tuple[int, bytes]:
         """The status of a tool that is sent a signal when it has read a line."""
         reader, writer = os.pipe()
-        child = subprocess.Popen([*words], stdin=reader, stdout=subprocess.PIPE, stderr=subprocess.PIPE, cwd=self.folder, env={**os.environ, **variables},
-                                 preexec_fn=lambda: [signal.signal(each, signal.SIG_DFL) for each in (signal.SIGINT, signal.SIGTERM, signal.SIGHUP)])
+        child = subprocess.Popen([*words], stdin=reader, stdout=subprocess.PIPE, stderr=subprocess.PIPE, cwd=self.folder, env={**os.environ, **variables}, preexec_fn=end_by_signals)
         os.close(reader)
         self.wait_until_blocked(child.pid)
         child.send_signal(number)
@@ -236,8 +241,7 @@ class Signals(Ending):
         """The status of a tool that is sent a signal when a program that it has started has written its number into `pid`, and is slow. No such program is left."""
         pid = self.folder / "pid"
         pid.unlink(missing_ok=True)
-        child = subprocess.Popen(words, stdin=subprocess.DEVNULL, stderr=subprocess.PIPE, cwd=self.folder, env={**os.environ, **variables},
-                                 preexec_fn=lambda: signal.signal(signal.SIGINT, signal.default_int_handler))
+        child = subprocess.Popen(words, stdin=subprocess.DEVNULL, stderr=subprocess.PIPE, cwd=self.folder, env={**os.environ, **variables}, preexec_fn=end_by_signals)
         end = time.monotonic() + PATIENCE
         while not (pid.exists() and pid.read_text().strip()) and time.monotonic() < end:
             time.sleep(0.01)
@@ -297,8 +301,7 @@ class Signals(Ending):
     def test_an_interrupt_of_an_import_is_quiet(self) -> None:
         code = "import os, signal\nimport parts.quiet\nos.kill(os.getpid(), signal.SIGINT)\nprint('done')\n"
         for trap, status, said in (("trap - INT", -signal.SIGINT, b""), ("trap '' INT", 0, b"done\n")):
-            done = subprocess.run(["sh", "-c", f"{trap}; exec \"$@\"", "sh", sys.executable, "-B", "-c", code], env={**os.environ, "PYTHONPATH": str(TOOLS)}, capture_output=True,
-                                  preexec_fn=lambda: signal.signal(signal.SIGINT, signal.SIG_DFL))
+            done = subprocess.run(["sh", "-c", f"{trap}; exec \"$@\"", "sh", sys.executable, "-B", "-c", code], env={**os.environ, "PYTHONPATH": str(TOOLS)}, capture_output=True, preexec_fn=end_by_signals)
             self.assertEqual((done.returncode, done.stdout, done.stderr), (status, said, b""))
 
     def test_a_signal_that_is_ignored_stays_so(self) -> None:

@@ -8,10 +8,11 @@ import shutil
 import subprocess
 import sys
 import tempfile
+import unittest
 from pathlib import Path
 
 from tests.hint_cases import CASES, FILES, NO_LINE, Case
-from tests.support import PROGRAM, ROOT, InFolder, needs_program
+from tests.support import PROGRAM, ROOT, InFolder, needs_libpfm4, needs_program, run_tool
 from tests.hint_edges import EDGES
 
 HINTS = ROOT / "bin/hints"
@@ -20,7 +21,8 @@ sys.path.append(str(HINTS))
 from hinting import hints_on
 from presets import SYMBOLS
 from scripts import CALLS, REGION_CALLS
-from texts import plain
+from silent import OTHERWISE
+from texts import LONGEST, cut, plain
 
 FORMATS = ROOT / "docs/FORMATS.md"
 PLACE = "crates/papi/out/papi"
@@ -33,6 +35,24 @@ def make_tree(folder: Path) -> Path:
     (folder / "crates.txt").touch()
     os.utime(folder / "crates.txt", (0, 0))
     return Path(shutil.copytree(ROOT / "bin", folder / "bin"))
+
+
+class Skylake(unittest.TestCase):
+    @needs_libpfm4
+    def test_what_counts_something_else_is_what_the_document_lists(self) -> None:
+        rows = (ROOT / "docs/RECORDING.md").read_text(encoding="utf-8").partition("| Event of Skylake | What is counted |\n|---|---|\n")[2].partition("\n\n")[0].splitlines()
+        listed, event = [], ""
+        for row in rows:
+            for begin, umask in re.findall(r"`(\w*):(\w+)`", row.partition(" | ")[0]) if not row.startswith("| with ") else []:
+                event = begin or event
+                listed.append((event, umask))
+        unit, codes = run_tool("make_unit", "skl").stdout.splitlines(), {}
+        for kind, name, code, *_ in (line.split(",") for line in unit if line.startswith(("EVENT,", "UMASK,"))):
+            if kind == "EVENT":
+                event, select = name, int(code, 16)
+            codes[event, name] = (select, int(code, 16))
+        self.assertGreater(len(listed), 10)
+        self.assertEqual({codes[each] for each in listed}, {(select, mask) for select, masks in OTHERWISE.items() for mask in masks})
 
 
 class Hints(InFolder):
@@ -168,6 +188,9 @@ class Scripts(InFolder):
 class Lists(InFolder):
     def test_a_byte_that_is_no_text_is_shown_by_its_number(self) -> None:
         self.assertEqual(plain(b"a\xff\x80".decode("utf-8", "surrogateescape")), r"a\xff\x80")
+
+    def test_a_text_is_cut_if_it_is_too_long(self) -> None:
+        self.assertEqual([cut("x" * length) for length in (LONGEST, LONGEST + 1)], ["x" * 100, "x" * 100 + ".."])
 
     def test_calls_and_symbols_are_those_of_the_document(self) -> None:
         """The tables of the hints beside those of docs/FORMATS.md."""

@@ -9,19 +9,20 @@ import subprocess
 import tempfile
 import time
 from pathlib import Path
+from typing import Sequence
 
-from tests.hint_cases import FILES, STREAM
-from tests.support import InFolder
+from tests.hint_cases import FILES, STREAM, SYMBOLS
+from tests.support import InFolder, needs_command
 from tests.test_hints import PLACE, make_tree
 from tests.test_progress import take_interrupts
 
 PATIENCE = 60  # seconds
 ENDING = (signal.SIGHUP, signal.SIGINT, signal.SIGQUIT, signal.SIGTERM)
 QUIET = (("papi_run", "1 0 create PAPI_OK 0"), ("papi_run", "1 0 stop PAPI_OK 0"), ("papi_native_avail", "Total events: 8"), ("papi_event_chooser", "Total events: 2"), ("papi_profil", "total 3"),
-         ("papi_avail", "Of 26 possible events, 10 are available, of which 3 are derived."), ("papi_decode", "PRESET,PAPI_TOT_INS,NOT_DERIVED,X"),
+         ("papi_avail", f"Of {len(SYMBOLS)} possible events, 10 are available, of which 3 are derived."), ("papi_decode", "PRESET,PAPI_TOT_INS,NOT_DERIVED,X"),
          ("papi_regions", "0 outer 1 7"), ("papi_encode", "lab::X 0x5300c0"), ("papi_soak", "sum 4"))
 TELLING = (("papi_run", "1 0 add PAPI_ENOEVST"), ("papi_native_avail", "Total events: 0"), ("papi_event_chooser", "Total events: 0"), ("papi_profil", "total 0"),
-           ("papi_avail", "Of 26 possible events, 0 are available, of which 0 are derived."), ("papi_avail", "Available: No"), ("papi_decode", "CPU,lab"))
+           ("papi_avail", f"Of {len(SYMBOLS)} possible events, 0 are available, of which 0 are derived."), ("papi_avail", "Available: No"), ("papi_decode", "CPU,lab"))
 
 SILENT_CALLS = (("papi_run", "6 0 stop PAPI_OK 0", "-U u s t"), ("papi_run", "6 0 stop PAPI_OK 5", "-Uu -Pp -C small --workers 2 s t"), ("papi_profil", "total 3", "-U u -M m s t"),
                 ("papi_regions", "0 outer 1 7 0", "-U u --events loads r t"), ("papi_regions", "0 outer 1 7", "-U u -P p --events=BOTH -Csmall -- r t"))
@@ -45,10 +46,10 @@ class Running(InFolder):
         path = self.write(PLACE, "\n".join(("#!/bin/sh", *lines, "")))
         os.chmod(path, 0o755)
 
-    def start(self, tool: str = "papi_run", **how: object) -> subprocess.Popen[bytes]:
+    def start(self, tool: str = "papi_run", by: Sequence[str] = (), **how: object) -> subprocess.Popen[bytes]:
         given = {"stdin": subprocess.DEVNULL, "stdout": subprocess.PIPE, "stderr": subprocess.PIPE, **how}
         environment = {**os.environ, "TMPDIR": str(self.temporary), "PATH": f"{self.folder}/path:{os.environ['PATH']}", "XDG_CACHE_HOME": f"{self.folder}/cache"}
-        return subprocess.Popen([str(self.bin / tool), "s"], cwd=self.folder, env=environment, preexec_fn=take_interrupts, **given)  # type: ignore[call-overload]
+        return subprocess.Popen([*by, str(self.bin / tool), "s"], cwd=self.folder, env=environment, preexec_fn=take_interrupts, **given)  # type: ignore[call-overload]
 
     def wait_for(self, name: str) -> str:
         """What a file has as soon as it is there."""
@@ -92,6 +93,38 @@ class Running(InFolder):
             self.assertEqual((child.communicate(), list(self.temporary.iterdir())), ((b"", b""), []), number)
             (self.folder / "process").unlink()
 
+    def test_a_word_of_the_shell_that_nobody_reads(self) -> None:
+        """It says on standard error that a signal ended what it has started."""
+        (self.folder / "path").mkdir()
+        os.chmod(self.write("path/cat", f"#!/bin/sh\nuntil [ -e '{self.folder}/go' ]; do sleep 0.01; done\nkill -s HUP $$\n"), 0o755)
+        self.program("echo 'papi: bad words' >&2", "exit 2")
+        child = self.start(stdout=subprocess.DEVNULL)
+        assert child.stderr is not None
+        self.assertEqual(child.stderr.readline(), b"papi: bad words\n")
+        child.stderr.close()
+        (self.folder / "go").touch()
+        self.assertEqual((child.wait(PATIENCE), list(self.temporary.iterdir())), (2, []))
+
+    def test_a_signal_to_all_while_the_folder_is_removed(self) -> None:
+        (self.folder / "path").mkdir()
+        os.chmod(self.write("path/rm", '#!/bin/sh\nkill -s TERM 0\nPATH=${PATH#*:}\nexec rm "$@"\n'), 0o755)
+        for lines, status in ((("echo out",), 0), (('kill -s TERM "$PPID"', "exec sleep 60"), -signal.SIGTERM)):
+            self.program(*lines)
+            child = self.start(start_new_session=True)
+            child.communicate()
+            self.assertEqual((child.returncode, list(self.temporary.iterdir())), (status, []), lines)
+
+    @needs_command("bash", "bash")
+    def test_bash_does_not_end_by_each_signal(self) -> None:
+        """The status says by which it was to end."""
+        for number, status in ((signal.SIGHUP, -signal.SIGHUP), (signal.SIGINT, -signal.SIGINT), (signal.SIGQUIT, 128 + signal.SIGQUIT), (signal.SIGTERM, -signal.SIGTERM)):
+            self.program('echo "$$" >process', "exec sleep 60")
+            child = self.start("papi", ("bash", "-c", 'exec bash "$0" --tool papi_run s'))
+            process = int(self.wait_for("process"))
+            child.send_signal(number)
+            self.assertEqual((child.wait(PATIENCE), is_alive(process), child.communicate()), (status, False, (b"", b"")), number)
+            (self.folder / "process").unlink()
+
     def test_a_program_that_loses_a_signal_has_it_again(self) -> None:
         """As one may that was started a moment ago. Here the first one changes nothing."""
         self.program("trap 'trap - TERM' TERM", 'echo "$$" >process', "tries=0", f"while [ $tries != {20 * PATIENCE} ]; do sleep 0.1; tries=$((tries + 1)); done")
@@ -112,6 +145,29 @@ class Running(InFolder):
         self.program("echo '1 0 add PAPI_ENOEVST'", "echo 'papi: s: too large' >&2", "exit 2")
         self.start().communicate()
         self.assertEqual(list(self.temporary.iterdir()), [])
+
+    def test_a_program_that_is_older_than_its_sources(self) -> None:
+        tree = self.folder / "a tree"
+        tree.mkdir()
+        self.bin = make_tree(tree)
+        os.chmod(self.write(f"a tree/{PLACE}", "#!/bin/sh\n"), 0o755)
+        for name in ("crates.txt", "crates/some/src/a.rt", "crates/some/specs/A.antt"):
+            (tree / name).parent.mkdir(parents=True, exist_ok=True)
+            self.write(f"a tree/{name}", "")
+            said = f"papi: the proved program is older than {name} (build it by: cd crates/papi && rt run -- papi_soak 1)\n"
+            for time_of, wanted in ((1 << 32, said), (0, "")):
+                os.utime(tree / name, (time_of, time_of))
+                child = self.start()
+                self.assertEqual((*child.communicate(), child.returncode), (b"", wanted.encode(), 0), name)
+
+    def test_a_temporary_folder_by_any_name(self) -> None:
+        self.count_pythons()
+        self.temporary = Path("-tmp")
+        (self.folder / "-tmp").mkdir()
+        self.program("echo '1 0 add PAPI_ENOEVST'", "echo '2 0 read PAPI_OK 5'")
+        child = self.start()
+        self.assertEqual((*child.communicate(), child.returncode), (b"1 0 add PAPI_ENOEVST\n2 0 read PAPI_OK 5\n", b"", 0))
+        self.assertEqual(((self.folder / "python").exists(), os.listdir(self.folder / "-tmp")), (True, []))
 
     def test_an_error_output_whose_reader_is_gone(self) -> None:
         reading, writing = os.pipe()

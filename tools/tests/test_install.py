@@ -3,6 +3,7 @@
 from __future__ import annotations
 
 import os
+import re
 import shutil
 import signal
 import subprocess
@@ -77,6 +78,9 @@ class Install(InFolder):
                      "share/bash-completion/completions/papi_run-x", "share/fish/vendor_completions.d/papi_run-x.fish"):  # fmt: skip
             self.assertTrue((self.prefix / file).exists(), file)
         self.assertEqual([str(path) for path in some(self.prefix.rglob("*")) if path.is_symlink() and not path.exists()], [], "links to nothing")
+        for file in some((ROOT / "completions").iterdir()):
+            suffixed = re.sub("|".join(TOOLS), lambda found: f"{found[0]}-x", file.read_text())
+            self.assertEqual((self.prefix / "share/kistalub/completions" / file.name).read_text(), suffixed)
         self.assertIn(f"prefix={self.prefix}\n", (self.prefix / "lib/pkgconfig/kistalub.pc").read_text())
 
     def test_the_scripts_run_the_program(self) -> None:
@@ -107,6 +111,11 @@ class Install(InFolder):
         self.assertIn(f"'{self.folder}/usr/libexec/kistalub/papi'", (self.folder / f"staged{self.folder}/usr/bin/papi_run").read_text())
         self.assertFalse((self.folder / "usr").exists())
 
+    def test_a_staging_folder_by_any_name(self) -> None:
+        done = self.install("--program-suffix=-x", "/usr", DESTDIR="-staged here")
+        self.assertEqual((done.returncode, done.stderr), (0, ""))
+        self.assertTrue((self.folder / "-staged here/usr/bin/papi_run-x").exists())
+
     def test_a_step_that_fails_ends_it(self) -> None:
         self.put("c/build", "#!/bin/sh\necho no >&2\nexit 7\n")
         done = self.install(self.prefix)
@@ -114,6 +123,17 @@ class Install(InFolder):
         self.put("c/build", BUILD)
         self.prefix.write_text("a file")
         self.assertNotEqual(self.install(self.prefix).returncode, 0)
+
+    def test_a_signal_to_all_while_its_folder_is_made_or_removed(self) -> None:
+        (self.folder / "path").mkdir()
+        for name, text in (("rm", 'kill -s TERM 0\nPATH=${PATH#*:}\nexec rm "$@"\n'), ("mktemp", 'PATH=${PATH#*:}\nmade=$(mktemp "$@")\nkill -s TERM 0\necho "$made"\n')):
+            path = self.folder / "path" / name
+            path.write_text(f"#!/bin/sh\n{text}")
+            path.chmod(0o755)
+            environment = {**os.environ, "TMPDIR": str(self.folder / "tmp"), "PATH": f"{self.folder}/path:{os.environ['PATH']}"}
+            done = subprocess.run([str(self.tree / "bin/install"), str(self.prefix)], env=environment, start_new_session=True, capture_output=True)
+            self.assertEqual((done.returncode, os.listdir(self.folder / "tmp")), (143, []), name)
+            path.unlink()
 
     @unittest.skipUnless(Path("/proc/self/task").exists(), "there is no /proc/self/task")
     def test_signals(self) -> None:

@@ -30,6 +30,10 @@ class Ranges(unittest.TestCase):
         self.assertEqual(rows(functions), ["RANGE,a,0x0,1,33", "RANGE,b,0x21,2,50000", "RANGE,c,0x30d40,2,15"])
         self.assertEqual(rows([Function("a", 0, 10), Function("b", 4, 6)]), ["RANGE,a,0x0,1,4", "RANGE,b,0x4,1,6"])
 
+    def test_a_function_that_wide_buckets_do_not_fit_has_narrow_ones(self) -> None:
+        functions = [Function("a", 0, 100_000), Function("b", 100_000, 33), Function("c", 100_033, 9), Function("d", 100_050, 9)]
+        self.assertEqual(rows(functions)[1:], ["RANGE,b,0x186a0,1,33", "RANGE,c,0x186c1,2,5", "RANGE,d,0x186d2,2,5"])
+
     def test_the_end_of_all_addresses(self) -> None:
         self.assertEqual(rows([Function("a", 2, 100)], ADDRESSES - 10), [f"RANGE,a,{ADDRESSES - 8:#x},1,8"])
 

@@ -126,6 +126,10 @@ class Tables(InFolder):
 
 
 class Manuals(unittest.TestCase):
+    def test_a_summary_is_printed_as_it_is(self) -> None:
+        page = manual_page(read_usage("papi_run"), r".a \b and c-d", "January 1, 2026").splitlines()
+        self.assertIn(r".Nd \&.a \eb and c\-d", page)
+
     def test_synopsis(self) -> None:
         self.assertEqual(synopsis("-U UNIT [--workers N] NATIVE|PRESET EVENT.."), [
             ".Fl U Ar UNIT", r".Op Fl \-workers Ar N", r".Ar NATIVE\||PRESET", ".Ar EVENT ...",

@@ -2,7 +2,10 @@
 
 from __future__ import annotations
 
-from parts.package_links import main
+import subprocess
+import sys
+
+from parts import package_links
 from tests.support import InFolder
 
 
@@ -13,7 +16,7 @@ class Links(InFolder):
         readme = self.write("README.md", text)
         self.write("docs/d.svg", "")
         deep = self.write("docs/A.md", "[up](../README.md) [down](A.md) [out](../crates/x)\n")
-        main(str(self.folder))
+        subprocess.run([sys.executable, "-B", package_links.__file__, str(self.folder)], check=True)
         with open(readme, encoding="utf-8") as file:
             self.assertEqual(file.read(), "[a](docs/A.md), [b](docs/A.md#b), `c`, ![d](docs/d.svg), e\n[f](#f) [g](https://g.org/x) h [i]\n```\n[k](no)\n```\n")
         with open(deep, encoding="utf-8") as file:

@@ -10,6 +10,7 @@ import signal
 import subprocess
 import time
 import unittest
+from contextlib import suppress
 from pathlib import Path
 from typing import Callable
 
@@ -26,6 +27,16 @@ def take_interrupts() -> None:
     """A shell starts what it puts in the background with SIGINT and SIGQUIT ignored, and so would the tests be."""
     for number in (signal.SIGHUP, signal.SIGINT, signal.SIGQUIT, signal.SIGTERM):
         signal.signal(number, signal.SIG_DFL)
+
+
+def readers_below(folder: Path) -> list[str]:
+    """The processes whose standard input or another low descriptor is a file below a folder, of which it may be gone."""
+    found = []
+    for link in Path("/proc").glob("[0-9]*/fd/[07]"):
+        with suppress(OSError):
+            if os.readlink(link).startswith(f"{folder}/"):
+                found.append(str(link))
+    return found
 
 
 class Progress(InFolder):
@@ -87,6 +98,12 @@ class Progress(InFolder):
         status, shown = self.call("s")
         self.assertEqual((status, LINE.sub(b"", shown).startswith(GONE + b"papi: bad words\nhint: ")), (2, True), shown)
 
+    def test_a_temporary_folder_by_any_name(self) -> None:
+        self.program(*UNTIL_SEEN, "echo '1 0 add PAPI_ENOEVST'")
+        (self.folder / "-tmp").mkdir()
+        status, shown = self.call("--strict s t", TMPDIR="-tmp", KISTALUB_HINTS="0")
+        self.assertEqual((status, shown.partition(GONE)[2], os.listdir(self.folder / "-tmp")), (1, b"1 0 add PAPI_ENOEVST\n", []))
+
     def test_an_output_elsewhere_has_the_programs_bytes_alone(self) -> None:
         self.program(*UNTIL_SEEN, "printf 'a\\n\\nx'", "exit 3")
         path = self.folder / "out"
@@ -132,6 +149,20 @@ class Progress(InFolder):
             self.assertEqual(child.wait(PATIENCE), -number)
             self.assertTrue(shown.endswith(GONE), shown)
             self.assertFalse(Path(f"/proc/{self.wait_for_process()}/exe").exists())
+
+    @unittest.skipUnless(Path("/proc/self/fd").exists(), "there is no /proc/self/fd")
+    def test_what_waits_for_the_output_ends_too(self) -> None:
+        """Also where what the program has started has the output open."""
+        (self.folder / "tmp").mkdir()
+        self.program("sleep 60 &", "echo $! >sleeper", 'echo "$$" >process', "exec sleep 60")
+        child, terminal = self.start("s t", None, TMPDIR=str(self.folder / "tmp"))
+        self.shown(terminal, lambda: (self.wait_for_process(), child.send_signal(signal.SIGTERM)))
+        self.assertEqual(child.wait(PATIENCE), -signal.SIGTERM)
+        self.addCleanup(os.kill, int((self.folder / "sleeper").read_text()), signal.SIGKILL)
+        end = time.monotonic() + 5
+        while (left := readers_below(self.folder / "tmp")) and time.monotonic() < end:
+            time.sleep(0.01)
+        self.assertEqual(left, [])
 
     def test_no_line_goes_on_without_the_script(self) -> None:
         """After a signal that the script can't take, the line ends, and none comes again."""

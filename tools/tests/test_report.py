@@ -20,7 +20,7 @@ from parts.report.region_tree import read_tree
 from parts.report.replies import Step, read_replies
 from parts.report.sets import Pictures, groups_of
 from parts.report.source_lines import places_of, source_lines
-from parts.report.story import Reading, Setup, Span, Story, tell_story
+from parts.report.story import Conflict, Reading, Setup, Span, Story, tell_story
 from parts.report.summary import off_by, totals_of
 from parts.report.turns import Clock, Turn, clock_of, turns_of
 from parts.report.unit_counters import read_counters
@@ -106,6 +106,8 @@ class Markings(unittest.TestCase):
             (f'{style}<p class="">x</p>', "p has an empty class"), (f'{style}<p class="a c">x</p>', "no style has the class c"), ('<p text-anchor="top"></p>', "text-anchor is top"),
             ("<table><tr><th>a</th><th>b</th></tr><tr><td>1</td></tr></table>", "a row has 1 cells below 2 heads"), ("<svg></svg>", "a picture has no box"),
             ('<table><tr><th>a</th></tr><tr><td data-label="b">1</td></tr></table>', "below a stands b"),
+            ('<style>.main { } .stack { }</style><table class="totals stack"><tr><th>a</th></tr><tr><td class="main">1</td></tr><tr><td></td></tr><tr><td>2</td></tr></table>',
+             "no label stands beside 2"),
             (picture.format('<rect x="2" width="9"></rect>'), "rect has x from 2 to 11 of 10"), (picture.format('<line y2="-1"></line>'), "line has y2 from -1 to -1 of 10"),
         ):
             self.assertEqual(faults_of(text), [fault])
@@ -113,7 +115,8 @@ class Markings(unittest.TestCase):
 
 class Numbers(unittest.TestCase):
     def test_numbers(self) -> None:
-        self.assertEqual([short(number) for number in (0, 999, 1000, 1234, 123_456, 2_500_000, -6)], ["0", "999", "1k", "1.2k", "123k", "2.5M", "-6"])
+        self.assertEqual([short(number) for number in (0, 999, 1000, 1234, 123_456, 2_500_000, 3 * 10**9, 4 * 10**12, -6)],
+                         ["0", "999", "1k", "1.2k", "123k", "2.5M", "3G", "4T", "-6"])
         self.assertEqual(ticks(5, 8), [0, 1, 2, 3, 4, 5])
         self.assertEqual(ticks(1945, 8), [0, 500, 1000, 1500])
         self.assertEqual(ticks(0, 8), [0])
@@ -267,6 +270,14 @@ class Asking(InFolder):
         assert picture is not None
         self.assertEqual([(row.native, row.allowed, row.counter) for row in picture.rows], [("lab::CACHE", ("P1",), "P1"), ("lab::BR_INST:ALL", ("P0",), "P0")])
 
+    def test_a_conflict_of_a_set_that_asks_for_no_assignment(self) -> None:
+        call = Call(4, 0, "add", ("0", "BR_MISP"))
+        step = Step(call, "PAPI_ECNFLCT", ("lab::BR_INST:ALL", "lab::BR_MISP", "/", "P0"))
+        with Tools(Tables(LAB)) as tools:
+            picture = Pictures(tools, read_counters(LAB)).of_conflict(Conflict(step, ("BR_INST",), {}, *step.blame()))
+        assert picture is not None
+        self.assertEqual([(row.native, row.counter, row.remark) for row in picture.rows], [("lab::BR_INST:ALL", "P0", ""), ("lab::BR_MISP", None, "to be added")])
+
     def test_where_thresholds_are_passed(self) -> None:
         with Tools(Tables(LAB)) as tools:
             script = (EXAMPLES / "overflow.script").read_text(encoding="utf-8")
@@ -275,6 +286,11 @@ class Asking(InFolder):
         self.assertEqual([(passing.after, passing.upto, passing.note.address) for passing in span.passings], [(3, 4, "0x4"), (7, 8, "0x8")])
         self.assertEqual([reading.values[0] for reading in span.readings], [255 * number for number in (*range(9), 8)])
         self.assertEqual((span.start, span.end, span.is_open), (0, 8, False))
+
+    def test_a_set_has_the_counters_that_the_script_was_told(self) -> None:
+        with Tools(Tables(LAB)) as tools:
+            story = self.tell(tools, "0 create\n0 add 0 BR_INST\n0 add 0 CACHE\n0 start 0\n")
+        self.assertEqual(story.spans[0].setup.counters, {"lab::BR_INST:ALL": "P0", "lab::CACHE": "P1"})
 
     def test_zeroed_counts_and_open_sets(self) -> None:
         stream = self.write("stream", "0 c0 00 u 2 1\n" * 6)

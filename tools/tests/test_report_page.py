@@ -23,7 +23,7 @@ from parts.report.region_tree import Region
 from parts.report.replies import Note, read_replies
 from parts.report.script_table import draw_script
 from parts.report.sets import Group
-from parts.report.story import Reading, Setup, Span, Story
+from parts.report.story import Passing, Reading, Setup, Span, Story
 from parts.report.summary import Total, Window, draw_tiles, draw_totals, totals_of
 from parts.report.timeline import Timing, draw_timelines
 from parts.report.times import Time, times_of
@@ -93,6 +93,16 @@ class Parts(unittest.TestCase):
         self.assertIn("<title>set 0 ran from 25 to 75: X</title>", made)
         self.assertIn("<title>zeroed at 50</title>", made)
 
+    def test_where_thresholds_were_passed_is_told(self) -> None:
+        span = Span(0, 0, Setup(("X",)), 0, 2000, [], [], [Passing(after, upto, Note(0, 0, 0, at)) for after, upto, at in ((3, 4, "0x4"), (999, 1200, "0x8"), (999, 1200, "0xc"))])
+        made = draw_timelines(Story(setups={(0, 0): span.setup}, spans=[span], positions={0: 2000}), {}, lambda _: None, {0: Time()})[0]
+        self.assertEqual(re.findall(r"<title>([0-9]+ thresholds? .*?)</title>", made), ["1 threshold passed at occurrence 4 (0x4)", "2 thresholds passed from occurrence 1,000 to 1,200 (0x8, 0xc)"])
+
+    def test_the_numbers_of_an_axis_have_their_commas(self) -> None:
+        span = Span(0, 0, Setup(("X",)), 0, 2000, [], [], is_open=False)
+        made = draw_timelines(Story(setups={(0, 0): span.setup}, spans=[span], positions={0: 2000}), {}, lambda _: None, {0: Time()})[0]
+        self.assertEqual(re.findall(r"<text[^>]*>([0-9,]+)</text>", made), ["0", "500", "1,000", "1,500", "2,000"])
+
     def test_the_shares_of_regions(self) -> None:
         inner = Region("inner", 0, "b", 2, (2500, 1))
         made = draw_regions([Region("outer", 0, "a", 1, (7500, 9), [inner]), Region("other", 0, "c", 3, (2500, 0))], ("X", "Y"))
@@ -100,6 +110,7 @@ class Parts(unittest.TestCase):
         self.assertEqual(re.findall(r'title="([0-9.]+ %)"><div [^>]*style="width:([0-9.]+%)"', made[0]), [("75.0 %", "75.0%"), ("25.0 %", "25.0%"), ("50.0 %", "50.0%"), ("25.0 %", "25.0%")])
         self.assertEqual(re.findall(r"padding-left:([0-9]+)px", made[0]), ["0", "22", "22", "0"])
         self.assertEqual(re.findall(r'data-label="(\w)"', made[0]), ["X", "Y"] * 4)
+        self.assertIn('class="tree wide" style="--columns:2"', made[0])
 
     STEPS, _ = read_replies(
         calls_of(["0 create", "0 add 0 X", "0 start 0", "0 read 0", "0 read 0", "0 add 0 Y"]),
@@ -146,6 +157,10 @@ class Limits(InFolder):
         for points, dots in ((12, 12), (13, 0)):
             span = span_of("X", readings=[Reading(position, (position,)) for position in range(points)])
             self.assertEqual(draw_curves(span, Time())[0].count("<circle"), dots)
+
+    def test_the_numbers_of_a_curve_have_their_commas(self) -> None:
+        span = span_of("X", end=2000, readings=[Reading(0, (0,)), Reading(2000, (1500,))])
+        self.assertEqual(text_of(draw_curves(span, Time())), "X 1,500 X of set 0 of thread 0 0 1.5k 0 at 0 1,500 at 2,000 0 2,000")
 
     def test_a_curve_of_one_place_has_one_label(self) -> None:
         span = span_of("X", readings=[Reading(7, (0,)), Reading(7, (0,))])

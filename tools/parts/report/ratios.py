@@ -17,7 +17,7 @@ MOST_RATIOS = 400
 
 def draw_ratios(totals: Sequence[Total]) -> list[Markup]:
     rows = list(_rows(totals))[:MOST_RATIOS]
-    return [element("h3", "Ratios"), table_of(("thread", "set", "ratio", "of", "value"), rows, "ratios")] if rows else []
+    return [element("h3", "Ratios"), table_of(("thread", "set", "ratio", "of", "value"), rows)] if rows else []
 
 
 def _rows(totals: Sequence[Total]) -> Iterable[Markup]:
@@ -44,7 +44,7 @@ def _row(part: Total, whole: Total, name: str, scale: int) -> Markup:
         element("td", span.set, data_label="set"),
         element("td", element("code", name), class_="main"),
         element("td", f"{shown(part.best)} / {shown(whole.best)}", class_="number quiet", data_label="of"),
-        element("td", element("b", f"{scale * part.best / whole.best:.2f}"), element("span", "estimate", class_="badge") if is_estimate else None, class_="number"),
+        element("td", element("b", f"{scale * part.best / whole.best:.2f}"), element("span", "estimate", class_="badge") if is_estimate else None, class_="number", data_label="value"),
         data_thread=span.thread,
         data_set=f"{span.thread}.{span.set}",
     )

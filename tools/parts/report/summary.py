@@ -91,13 +91,13 @@ def draw_totals(totals: Sequence[Total]) -> list[Markup]:
     heads = ["thread", "set", "event", "occurrences", "value"] + (["exact", "estimate off by"] if compared else [])
     rows = [_row(total, compared) for total in totals[:MOST_ROWS]]
     left_out = len(totals) - MOST_ROWS
-    return [table_of(heads, rows, "totals")] + [element("p", f"Left out: {counted(left_out, 'value')} more.", class_="quiet")] * (left_out > 0)
+    return [table_of(heads, rows, "totals stack")] + [element("p", f"Left out: {counted(left_out, 'value')} more.", class_="quiet")] * (left_out > 0)
 
 
-def table_of(heads: Sequence[str], rows: Sequence[Markup], kind: str) -> Markup:
+def table_of(heads: Sequence[str], rows: Sequence[Markup], kind: str = "stack") -> Markup:
     """A table whose cells stand below one another on a narrow page, each with its label."""
     head = element("thead", element("tr", [element("th", text, scope="col", class_="number" if place > 2 else None) for place, text in enumerate(heads)]))
-    return element("div", element("table", head, element("tbody", rows), class_=f"{kind} stack"), class_="wide")
+    return element("div", element("table", head, element("tbody", rows), class_=kind), class_="wide")
 
 
 def _row(total: Total, compared: bool) -> Markup:
