@@ -14,6 +14,7 @@ WORD = re.compile(r"[^\s(){}\[\];,:]+")
 DECLARED = "declared"  # in a path: what follows is a type of the Rust code
 CONSTANTS, VARIANTS = "TheConstants", "TheVariants"
 COMMENTS = ("--", "//", "#[")
+MARK = re.compile(r"\s*(?:--|//) tools/make_\w+: (?:begin|end)\b")  # of a region: it says nothing, and ends nothing
 RUST_ITEM = r"^\s*(?:pub(?:\([a-z]+\))? )?(?:struct|enum|trait|const|type) {}\b"
 
 
@@ -86,6 +87,8 @@ def take_definitions(module: Module, text: str) -> None:
     comment: list[str] = []
     current: Definition | None = None
     for number, line in enumerate(text.splitlines(), 1):
+        if MARK.match(line):
+            continue
         head = HEAD.match(line)
         if head:
             current = Definition(Place(module.path, head[1]), module.file, number, sentence_of(comment))
@@ -227,6 +230,8 @@ def rust_sentence(lines: list[str], at: int) -> str:
     """The comment above an item, up to the end of its first paragraph."""
     above: list[str] = []
     for line in reversed(lines[:at]):
+        if MARK.match(line):
+            break
         if line.strip().startswith("//"):
             above.insert(0, line.strip().lstrip("/").strip())
         elif not line.strip().startswith("#["):

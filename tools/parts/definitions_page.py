@@ -89,16 +89,20 @@ def by_crate(guide: Guide) -> dict[str, list[Definition]]:
     return {crate: groups[crate] for crate in sorted(groups, key=lambda crate: -level[crate])}
 
 
+def begun(sentence: str) -> str:
+    """A sentence without its full stop, begun with a capital; those in it stay."""
+    return sentence[:1].upper() + sentence[1:].rstrip(".")
+
+
 def row(guide: Guide, definition: Definition) -> str:
     place = definition.file.relative_to(guide.root)
-    said = definition.sentence.replace("|", "\\|").rstrip(".")
-    said = said[:1].upper() + said[1:]
+    said = begun(definition.sentence.replace("|", "\\|"))
     return f"| [`{definition.place.name}`](../{place}#L{definition.line}) | {said} | {definition.lines} |"
 
 
 def section(guide: Guide, crate: str, definitions: list[Definition]) -> list[str]:
     lines = sum(it.lines for it in definitions)
-    text = [f"## {crate}", "", f"{guide.subjects.get(crate, crate).rstrip('.').capitalize()}. {len(definitions)} here, {lines} lines.", ""]
+    text = [f"## {crate}", "", f"{begun(guide.subjects.get(crate, crate))}. {len(definitions)} here, {lines} lines.", ""]
     modules: dict[Path, list[Definition]] = {}
     for definition in definitions:
         modules.setdefault(definition.file, []).append(definition)

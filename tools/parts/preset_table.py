@@ -3,20 +3,20 @@
 from __future__ import annotations
 
 import re
-import textwrap
 from dataclasses import dataclass
 from itertools import takewhile
 from pathlib import Path
 from typing import Callable
 
 from parts.command import Fault, read_file
+from parts.regions import filled, with_region
 from parts.usage import ROOT
 
 TABLE = "crates/preset_csv/presets.csv"
 SYMBOL = re.compile(r"PAPI_[A-Z0-9_]+")
 CODE = re.compile(r"0x8[0-9a-f]{7}")
 DESCRIPTION = re.compile(r"[A-Za-z0-9 ]+")
-BEGIN, END = "tools/make_presets: begin", "tools/make_presets: end"
+MAKER = "tools/make_presets"
 ROWS = "crates/worked_rows/data"
 LIST_HEAD = "Name          Code        Avail  Deriv  Description"
 LISTED = re.compile(r"(PAPI_\w+) +0x[0-9a-f]+  ((?:Yes|No) +(?:Yes|No) +)")
@@ -54,11 +54,6 @@ def read_presets(text: str) -> list[Preset]:
     if not presets:
         raise Fault(f"{TABLE}: no preset")
     return presets
-
-
-def _filled(words: list[str], width: int, indent: str = "    ") -> list[str]:
-    """The words, as many on a line as fit."""
-    return textwrap.wrap(" ".join(words), width, initial_indent=indent, subsequent_indent=indent, break_long_words=False, break_on_hyphens=False)
 
 
 def _arms(values: list[str]) -> list[str]:
@@ -107,26 +102,27 @@ def definition_lines(presets: list[Preset]) -> list[str]:
         f"    {rows[0]}",
         *[f"    ∷ {row}" for row in rows[1:]],
         "    ∷ []",
+        "",
     ]
 
 
 def modelled_lines(presets: list[Preset]) -> list[str]:
-    return ["static const int modelled[] = {", *_filled([f"{preset.symbol}," for preset in presets], 140), "};"]
+    return ["static const int modelled[] = {", *filled([f"{preset.symbol}," for preset in presets], 140), "};"]
 
 
 def symbol_lines(presets: list[Preset]) -> list[str]:
-    return ["SYMBOLS = (", *_filled([f'"{preset.symbol}",' for preset in presets], 140), ")"]
+    return ["SYMBOLS = (", *filled([f'"{preset.symbol}",' for preset in presets], 140), ")"]
 
 
 def number_lines(presets: list[Preset]) -> list[str]:
     """Symbols with the number that each has in PAPI's list, which is its code without bit 31."""
     pairs = [f'"{preset.symbol}":~0x{int(preset.code, 16) - 0x80000000:02X},' for preset in presets]
-    return ["PRESET_CODES = {", *[line.replace("~", " ") for line in _filled(pairs, 140)], "}"]
+    return ["PRESET_CODES = {", *[line.replace("~", " ") for line in filled(pairs, 140)], "}"]
 
 
 def document_lines(presets: list[Preset]) -> list[str]:
     names = [f"`{preset.symbol}`," for preset in presets]
-    return _filled([*names, "with the codes that PAPI gives them."], 160, "")
+    return filled([*names, "with the codes that PAPI gives them."], 160, "")
 
 
 # The files, and what stands there between the two marks.
@@ -139,17 +135,6 @@ REGIONS: dict[str, Callable[[list[Preset]], list[str]]] = {
     "checks/drawing.py": symbol_lines,
     "docs/FORMATS.md": document_lines,
 }
-
-
-def with_region(name: str, text: str, lines: list[str]) -> str:
-    """The text of a file with these lines between its marks."""
-    old = text.split("\n")
-    begins = [place for place, line in enumerate(old) if BEGIN in line]
-    ends = [place for place, line in enumerate(old) if END in line]
-    if len(begins) != 1 or len(ends) != 1 or ends[0] < begins[0]:
-        raise Fault(f"{name}: the marks of tools/make_presets do not stand once each")
-    between = {".md": ["", *lines, ""], ".antt": [*lines, ""]}.get(Path(name).suffix, lines)
-    return "\n".join([*old[: begins[0] + 1], *between, *old[ends[0] :]])
 
 
 # Texts with the number of presets, which stands at {n}. At {n+2} there are two user events more.
@@ -228,7 +213,7 @@ def made_texts(root: Path = ROOT) -> dict[str, str]:
     presets = read_presets(read_file(str(root / TABLE)))
     texts = {name: read_file(str(root / name)) for name in MADE}
     for name, lines in REGIONS.items():
-        texts[name] = with_region(name, texts[name], lines(presets))
+        texts[name] = with_region(name, texts[name], MAKER, lines(presets))
     for name, title in LISTINGS.items():
         texts[name] = with_listing(name, texts[name], title, presets)
     for name, patterns in NUMBERS.items():

@@ -10,9 +10,10 @@ import subprocess
 import sys
 import tempfile
 import unittest
+from contextlib import contextmanager
 from functools import lru_cache
 from pathlib import Path
-from typing import Any, Callable, Iterable, TypeVar
+from typing import Any, Callable, Iterable, Iterator, TypeVar
 
 TOOLS = Path(__file__).resolve().parent.parent
 ROOT = TOOLS.parent
@@ -34,6 +35,17 @@ def run_tool(name: str, *words: str, text: str = "", folder: Path | None = None)
 def run_program(*words: str) -> subprocess.CompletedProcess[str]:
     """The proved program."""
     return subprocess.run([str(PROGRAM), *words], capture_output=True, text=True)
+
+
+@contextmanager
+def copied(*names: str) -> Iterator[Path]:
+    """A folder with these files of the repository, at their places."""
+    with tempfile.TemporaryDirectory() as folder:
+        for name in names:
+            path = Path(folder) / name
+            path.parent.mkdir(parents=True, exist_ok=True)
+            shutil.copy(ROOT / name, path)
+        yield Path(folder)
 
 
 def some(items: Iterable[Item]) -> list[Item]:

@@ -9,7 +9,7 @@ import unittest
 from parts.command import Fault
 from parts.definitions import statements
 from parts.definitions_page import guide_page, read_guide, total_line
-from tests.support import TOOLS, InFolder
+from tests.support import TOOLS, InFolder, some
 
 TOP = """ghost use Rattle.papi_tools.specs.Top.{Good};
 use low::Kind;
@@ -50,7 +50,7 @@ twice n = n + n
 """
 FILES = {
     "crates.txt": "low:\npapi_tools: low\n",
-    "docs/ARCHITECTURE.md": "| Crate | Holds |\n|---|---|\n| `papi_tools` | the tools |\n| `low` | numbers |\n",
+    "docs/ARCHITECTURE.md": "| Crate | Holds |\n|---|---|\n| `papi_tools` | the tools |\n| `low` | numbers of PAPI |\n",
     "crates/papi_tools/src/top.rt": TOP,
     "crates/papi_tools/specs/Top.antt": TOP_SPECS,
     "crates/low/src/kind.rt": "/// A kind.\n#[derive(Drop)]\npub enum Kind {\n    // one\n    First,\n    Second,\n}\n",
@@ -70,6 +70,18 @@ class Definitions(InFolder):
         guide = read_guide(self.folder)
         self.assertEqual({it.place.name for it in guide.definitions}, {"Good", "number", "twice", "Kind", "MOST"})
         self.assertEqual(total_line(guide), "3 definitions of 7 lines in 2 files, and 2 types of 5 lines")
+
+    def test_the_marks_of_a_region_say_nothing_and_end_nothing(self) -> None:
+        def said() -> list[tuple[str, str, int]]:
+            return [(it.place.name, it.sentence, it.lines) for it in some(read_guide(self.folder).definitions)]
+
+        before = said()
+        self.write("crates/low/specs/Numbers.antt", LOW_SPECS.replace("-- the number", "-- tools/make_x: begin\n-- the number").replace("number Second", "-- tools/make_x: end\nnumber Second"))
+        self.write("crates/low/src/kind.rt", "// tools/make_x: begin\n" + FILES["crates/low/src/kind.rt"])
+        self.assertEqual(said(), before)
+
+    def test_what_a_crate_holds_keeps_its_capitals(self) -> None:
+        self.assertIn("\nNumbers of PAPI. ", guide_page(read_guide(self.folder)))
 
     def test_a_use_may_take_several_lines(self) -> None:
         self.assertEqual(statements("use a.{b,\n  c,\n}\nx\nghost use d;\n"), ["use a.{b, c, }", "ghost use d;"])

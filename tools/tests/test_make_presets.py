@@ -3,13 +3,11 @@
 from __future__ import annotations
 
 import re
-import tempfile
 import unittest
-from pathlib import Path
 
 from parts.command import Fault
-from parts.preset_table import MADE, REGIONS, TABLE, made_texts, read_presets, with_listing, with_number, with_region
-from tests.support import ROOT, run_tool, some
+from parts.preset_table import MADE, REGIONS, TABLE, made_texts, read_presets, with_listing, with_number
+from tests.support import ROOT, copied, run_tool, some
 
 LINE = "PAPI_TOT_INS,0x80000032,Instructions completed\n"
 THREE = read_presets("PAPI_L1_DCM,0x80000000,Misses\n" + LINE + "PAPI_REF_CYC,0x8000006b,Clock cycles\n")
@@ -18,12 +16,7 @@ TOTAL = re.compile(r"Of (\d+) possible events")
 
 def made_after(line: str) -> tuple[dict[str, str], dict[str, str]]:
     """What the files are made to be by the table, and by the table with one more line."""
-    with tempfile.TemporaryDirectory() as folder:
-        root = Path(folder)
-        for name in (TABLE, *MADE):
-            path = root / name
-            path.parent.mkdir(parents=True, exist_ok=True)
-            path.write_text((ROOT / name).read_text(encoding="utf-8"), encoding="utf-8")
+    with copied(TABLE, *MADE) as root:
         before = made_texts(root)
         with (root / TABLE).open("a", encoding="utf-8") as table:
             table.write(line)
@@ -96,8 +89,3 @@ class MakePresets(unittest.TestCase):
             self.assertEqual(str(raised.exception), f"{TABLE}: line {text.count(chr(10)) + 1}: {what}", text)
         with self.assertRaisesRegex(Fault, "no preset"):
             read_presets("# a comment\n")
-
-    def test_a_source_without_its_marks_is_refused(self) -> None:
-        for text in ("", "tools/make_presets: end\ntools/make_presets: begin\n", "tools/make_presets: begin\n" * 2 + "tools/make_presets: end\n"):
-            with self.assertRaisesRegex(Fault, "some.c: the marks"):
-                with_region("some.c", text, [])
