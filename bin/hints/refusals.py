@@ -21,8 +21,8 @@ SENTENCES = {
     "PAPI_ECOMBO": "Bad combination of features",
 }
 OF_NAME = "the name's code"
-OF_A_SET = "ENOEVST"
 # The refusals of each call in their order. The first one that holds is the reply.
+# tools/make_calls: begin
 RULES = {
     "register": "none",
     "unregister": "EISRUN: a set of the thread runs; EINVAL: the thread is not registered",
@@ -35,17 +35,22 @@ RULES = {
     "component": "ENOEVST, ENOCMP: no such component; EISRUN, EINVAL: it has another one",
     "domain": "ENOEVST, EISRUN, EINVAL: not 1, 2 or 3",
     "multiplex": "ENOEVST, EISRUN, EINVAL: not from 1 to 1,000,000 ticks; ECOMBO: a threshold is set",
-    "overflow": "ENOEVST, EISRUN, the name's code, EINVAL: not in the set, or derived, or the threshold neither 0 nor from 256 to the last value of the component's narrowest "
-    "register, or another event's threshold is on the same native event; ECOMBO: multiplexed",
+    "overflow": "ENOEVST, EISRUN, the name's code, EINVAL: not in the set, or derived, or the threshold neither 0 nor from 256 to the last value of the "
+    "component's narrowest register, or another event's threshold is on the same native event; ECOMBO: multiplexed",
     "start": "ENOEVST, EISRUN: it or another set of its component; EINVAL: no events",
     "stop": "ENOEVST, ENOTRUN",
-    **dict.fromkeys(("read", "accum", "reset", "state", "events"), OF_A_SET),
+    "read": "ENOEVST",
+    "accum": "ENOEVST",
+    "reset": "ENOEVST",
+    "state": "ENOEVST",
+    "events": "ENOEVST",
     "assign": "ENOEVST, ECOMBO: multiplexed",
     "raw": "ENOEVST, ENOTRUN, EINVAL: the component lacks the counter; ECOMBO: multiplexed; EINVAL: no native event of the set is on the counter",
     "run": "none; ESYS is not a refusal",
-    "code": OF_NAME,
+    "code": "the name's code",
     "name": "ENOEVNT: no preset and no user event has the code, and no native event that was mentioned so far",
 }
+# tools/make_calls: end
 MEANINGS = {"ENOEVST": "the set is not there", "EISRUN": "the set runs", "ENOTRUN": "the set does not run"}
 # What is wrong with a name: the fault as papi_encode prints it, when it comes, and its code.
 NAME_FAULTS = (

@@ -9,12 +9,15 @@ from typing import Mapping
 from forms import papi_calls
 from texts import near, shown
 
+# tools/make_calls: begin
 CALLS: dict[str, tuple[str, ...]] = {
     "register": (), "unregister": (), "threads": (), "create": (), "destroy": ("SET",), "cleanup": ("SET",), "add": ("SET", "EVENT"),
     "remove": ("SET", "EVENT"), "component": ("SET", "COMPONENT"), "domain": ("SET", "BITS"), "multiplex": ("SET", "SLICE"),
     "overflow": ("SET", "EVENT", "THRESHOLD"), "start": ("SET",), "stop": ("SET",), "read": ("SET",), "accum": ("SET",), "reset": ("SET",),
-    "state": ("SET",), "events": ("SET",), "assign": ("SET",), "raw": ("SET", "COUNTER"), "run": ("N",), "code": ("EVENT",), "name": ("CODE",),
+    "state": ("SET",), "events": ("SET",), "assign": ("SET",), "raw": ("SET", "COUNTER"), "run": ("N",), "code": ("EVENT",),
+    "name": ("CODE",),
 }
+# tools/make_calls: end
 REGION_CALLS: dict[str, tuple[str, ...]] = {"begin": ("NAME",), "read": ("NAME",), "end": ("NAME",), "run": ("N",)}
 THREAD = re.compile(r"[0-9]|[1-5][0-9]|6[0-3]")
 NUMBER = re.compile(r"0|[1-9][0-9]*")

@@ -10,6 +10,9 @@ from tests.support import ROOT
 sys.path.append(str(ROOT / "bin/hints"))
 
 from presets import SYMBOLS
+from scripts import CALLS
+
+NO_CALL_NEAR = f"none of the {len(CALLS)} that there are is near"
 
 UNIT = "COMPONENT,core,mine\nCOUNTER,C0,32,P\nCOUNTER,C1,32,P\nEVENT,INSTRUCTIONS,c0,C0 C1,Instructions\nEVENT,LOADS,d0,C1,Loads\n"
 UMASKS = "UMASK,ALL,03,d,All loads\nUMASK,MISSES,02,n,Loads that miss\nEVENT,STORES,d1,C0,Stores\nUMASK,HITS,01,-,Hits\nUMASK,MISSES,02,-,Misses\n"
@@ -287,7 +290,7 @@ PAPIS_NAMES = tuple(
         ("PAPI_ADD_EVENT", "PAPI_add_event is add here: T add SET EVENT"),
         ("list_events", "PAPI_list_events is events here: T events SET"),
         ("PAPI_hl_region_begin", "PAPI_hl_region_begin is begin in a region script, which papi_regions carries out: T begin NAME"),
-        ("PAPI_shutdown", 'there is no call "PAPI_shutdown" (none of the 24 that there are is near)'),
+        ("PAPI_shutdown", f'there is no call "PAPI_shutdown" ({NO_CALL_NEAR})'),
     )
 ) + (
     bad_region("a region call of PAPI", "0 PAPI_hl_region_end x\n", 1, "unknown call", "r:1: 0 PAPI_hl_region_end x", "PAPI_hl_region_end is end here: T end NAME"),
@@ -304,7 +307,7 @@ MISLED = (
               "-U UNIT is missing: the unit file: components, counters, events and umasks"),
     Case("a unit as map", "papi_profil -U u -M u s t", "papi: u: row 1: bad row", 2, ("u:1: COMPONENT,core,mine", '"COMPONENT" stands where RANGE is wanted')),
     Case("a long word is cut", "papi_run -U u s t", "papi: s: line 1: unknown call", 2,
-         (f"s:1: 0 {'x' * 98}..", f'there is no call "{"x" * 100}.." (none of the 24 that there are is near)'), {"s": f"0 {'x' * 101}\n"}),
+         (f"s:1: 0 {'x' * 98}..", f'there is no call "{"x" * 100}.." ({NO_CALL_NEAR})'), {"s": f"0 {'x' * 101}\n"}),
     Case("eight events are listed", "papi_native_avail -U u -e Z", "", 1, (f'the unit has no event "Z" (there are: {", ".join(f"E{n}" for n in range(8))})',),
          {"u": "COMPONENT,core,mine\nCOUNTER,C0,32,P\n" + "".join(f"EVENT,E{n},c{n},C0,An event\n" for n in range(8))}),
     Case("nine events are not", "papi_native_avail -U u -e Z", "", 1, ('the unit has no event "Z" (none of the 9 that there are is near)',),

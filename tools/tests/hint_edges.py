@@ -2,7 +2,7 @@
 
 from __future__ import annotations
 
-from tests.hint_cases import PRESETS, SCRIPT, STREAM, UMASKS, UNIT, Case, answer, bad_line, bad_region, bad_row, bad_stream, bad_words, refused
+from tests.hint_cases import NO_CALL_NEAR, PRESETS, SCRIPT, STREAM, UMASKS, UNIT, Case, answer, bad_line, bad_region, bad_row, bad_stream, bad_words, refused
 
 NET = "COMPONENT,net,wire\nCOUNTER,N0,32,P\nCOUNTER,N1,32,F\nEVENT,PACKETS,01,N0 N1,Packets\nEVENT,FIXED,02,N1,On the fixed one alone\n"
 CYCLES = PRESETS + "PRESET,PAPI_TOT_CYC,"
@@ -83,7 +83,7 @@ FIELDS = (
 
 LINES = (
     bad_line("thread 64", "64 create\n", 1, "bad thread", "s:1: 64 create", '"64" stands where the thread is wanted, 0 to 63: 0 register'),
-    bad_line("a thread alone", "0\n", 1, "unknown call", "s:1: 0", "no call stands after the thread (none of the 24 that there are is near)"),
+    bad_line("a thread alone", "0\n", 1, "unknown call", "s:1: 0", f"no call stands after the thread ({NO_CALL_NEAR})"),
     bad_line("an argument too many", "0 create 1\n", 1, "wrong arguments", "s:1: 0 create 1", "create takes nothing after it: T create"),
     bad_line("an event's name with a control character", "0 create\n0 add 0 A\x01\n", 2, "wrong arguments", r"s:2: 0 add 0 A\x01", r'"A\x01": the name of an event has characters from ! to ~'),
     bad_line("a threshold of 65 bits", "0 create\n0 overflow 0 LOADS 18446744073709551616\n", 2, "bad number", "s:2: 0 overflow 0 LOADS 18446744073709551616",

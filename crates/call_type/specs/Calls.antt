@@ -3,11 +3,12 @@ use Rattle.call_type.specs.declared.call.Asked.{Asked}
 use Rattle.call_type.specs.declared.call.Asked.TheVariants as asked
 use Rattle.call_type.specs.declared.call.Call.{Call}
 use Rattle.call_type.specs.declared.call.Call.TheVariants as call
-use Rattle.papi_base.specs.declared.call_name.CallName.{CallName}
-use Rattle.papi_base.specs.declared.call_name.CallName.TheVariants as name
+use Rattle.call_type.specs.declared.call_name.CallName.{CallName}
+use Rattle.call_type.specs.declared.call_name.CallName.TheVariants as name
 
 -- the name of a call on a session
 abbrev pub name_of_call : {E : Type 0} → Call E → CallName
+-- tools/make_calls: begin names
 name_of_call call.Register = name.Register
 name_of_call call.Unregister = name.Unregister
 name_of_call call.Create = name.Create
@@ -30,6 +31,8 @@ name_of_call (call.Assign set) = name.Assign
 name_of_call (call.Raw set c) = name.Raw
 name_of_call (call.Run n) = name.Run
 
+-- tools/make_calls: end
+
 -- the name of the call that a line makes
 abbrev pub name_of : {E C N : Type 0} → Asked E C N → CallName
 name_of (asked.Call made) = name_of_call made
@@ -39,6 +42,7 @@ name_of asked.Threads = name.Threads
 
 -- a call whose event has become this of it
 abbrev pub call_with : {E F : Type 0} → (E → F) → Call E → Call F
+-- tools/make_calls: begin events
 call_with f call.Register = call.Register
 call_with f call.Unregister = call.Unregister
 call_with f call.Create = call.Create
@@ -60,6 +64,8 @@ call_with f (call.ListEvents set) = call.ListEvents set
 call_with f (call.Assign set) = call.Assign set
 call_with f (call.Raw set c) = call.Raw set c
 call_with f (call.Run n) = call.Run n
+
+-- tools/make_calls: end
 
 -- what a line asks for, whose events have become these of them
 abbrev pub asked_with : {E F C D N : Type 0} → (E → F) → (C → D) → Asked E C N → Asked F D N

@@ -2,18 +2,16 @@
 ghost use Rattle.std.specs.Prelude.{◌≡◌};
 ghost use Rattle.call_type.specs.Calls.{name_of, name_of_call};
 
-use papi_base::CallName;
+use crate::call_name::CallName;
 
-/// A call on one thread's session, each as the manual page of its name says: PAPI_register_thread(3),
-/// PAPI_unregister_thread(3), PAPI_create_eventset(3), PAPI_destroy_eventset(3), PAPI_cleanup_eventset(3),
-/// PAPI_add_event(3), PAPI_remove_event(3), PAPI_assign_eventset_component(3), PAPI_set_domain(3), PAPI_set_multiplex(3),
-/// PAPI_overflow(3), PAPI_start(3), PAPI_stop(3), PAPI_read(3), PAPI_accum(3), PAPI_reset(3), PAPI_state(3) and
-/// PAPI_list_events(3). `Assign` asks for the counter of each native event, `Raw` for a counter's register, and `Run`
-/// consumes up to `n` occurrences of the thread's stream; these three are this project's own.
+/// A call on one thread's session, each as the manual page says of the function of PAPI that stands beside it in `calls.csv`.
+/// `Assign` asks for the counter of each native event, `Raw` for a counter's register, and `Run` consumes up to `n` occurrences of
+/// the thread's stream; these three are this project's own.
 ///
 /// `E` is an event: its text in a script, and then what the text was looked up as.
 #[derive(Clone, Copy, Debug, PartialEq, Eq, Drop)]
 pub enum Call<E> {
+    // tools/make_calls: begin variants
     Register,
     Unregister,
     Create,
@@ -35,6 +33,7 @@ pub enum Call<E> {
     Assign { set: u32 },
     Raw { set: u32, c: u32 },
     Run { n: u32 },
+    // tools/make_calls: end
 }
 
 /// What a line of a script asks for: a call on its thread's session, the code of an event (PAPI_event_name_to_code(3)), the name
@@ -55,6 +54,7 @@ impl<E> Call<E> {
         ensures name { result ≡ name_of_call self.now }
     {
         match self {
+            // tools/make_calls: begin names
             Call::Register => CallName::Register,
             Call::Unregister => CallName::Unregister,
             Call::Create => CallName::Create,
@@ -76,6 +76,7 @@ impl<E> Call<E> {
             Call::Assign { .. } => CallName::Assign,
             Call::Raw { .. } => CallName::Raw,
             Call::Run { .. } => CallName::Run,
+            // tools/make_calls: end
         }
     }
 }

@@ -1,5 +1,4 @@
 pub mod Adapter
-pub mod CallNames
 pub mod Codes
 pub mod Entries
 pub mod Memory

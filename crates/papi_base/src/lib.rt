@@ -4,7 +4,6 @@
 pub mod adapter;
 pub mod bits;
 pub mod bytes;
-pub mod call_name;
 pub mod code;
 pub mod files;
 pub mod limits;
@@ -22,7 +21,6 @@ pub mod whole;
 pub use adapter::{ReadSource, WriteSink};
 pub use bits::{Domain, StateBits};
 pub use bytes::Bytes;
-pub use call_name::{CallName, call_word};
 pub use code::{Code, code_name, code_number};
 pub use files::MemFiles;
 pub use limits::{

@@ -2,7 +2,7 @@
 use Rattle.std.proofs.Common.{◌≡◌, ◌<◌, ◌+◌, ℕ, false, List, drop, get_or, length, refl}
 use Rattle.std.specs.Str.{bytes_eq}
 use Rattle.std.proofs.lemmas.List.{drop_more}
-use Rattle.papi_base.specs.CallNames.{word_of}
+use Rattle.call_type.specs.CallNames.{word_of}
 use Rattle.table_rows.specs.Texts.{Text}
 use Rattle.script_lines.specs.Calls.{CallRow, form_of}
 

@@ -1,12 +1,12 @@
 -- The calls of a script, their names and words, in the order of the table of calls: this project's own format, docs/FORMATS.md.
 use Rattle.std.specs.Prelude.{ℕ, List, [], ◌∷◌, Option, Some, None, Result, Err, if◌then◌else◌}
 use Rattle.std.specs.Str.{bytes_eq}
-use Rattle.papi_base.specs.CallNames.{word_of}
+use Rattle.call_type.specs.CallNames.{word_of}
 use Rattle.call_type.specs.declared.call.Asked.{Asked}
 use Rattle.call_type.specs.declared.call.Asked.TheVariants as asked
 use Rattle.call_type.specs.declared.call.Call.TheVariants as call
-use Rattle.papi_base.specs.declared.call_name.CallName.{CallName}
-use Rattle.papi_base.specs.declared.call_name.CallName.TheVariants as name
+use Rattle.call_type.specs.declared.call_name.CallName.{CallName}
+use Rattle.call_type.specs.declared.call_name.CallName.TheVariants as name
 use Rattle.table_rows.specs.Texts.{Text}
 use Rattle.script_lines.specs.declared.fault.ScriptCause.{ScriptCause}
 use Rattle.script_lines.specs.declared.fault.ScriptCause.TheVariants.{UnknownCall}
@@ -39,6 +39,7 @@ row name form = record { name = name; form = form }
 -- all calls with their forms, in the order of the table of calls
 unfoldable pub call_rows : List CallRow
 call_rows =
+    -- tools/make_calls: begin
     row name.Register (Nothing (asked.Call call.Register))
     ∷ row name.Unregister (Nothing (asked.Call call.Unregister))
     ∷ row name.Threads (Nothing asked.Threads)
@@ -61,9 +62,10 @@ call_rows =
     ∷ row name.Assign (Number (λ set. asked.Call (call.Assign set)))
     ∷ row name.Raw (TwoNumbers (λ set c. asked.Call (call.Raw set c)))
     ∷ row name.Run (Number (λ n. asked.Call (call.Run n)))
-    ∷ row name.Code (Event (λ event. asked.CodeOf event))
+    ∷ row name.Code (Event (λ e. asked.CodeOf e))
     ∷ row name.Name (Code (λ code. asked.NameOf code))
     ∷ []
+    -- tools/make_calls: end
 
 -- the form of the call that a word names, if it names one
 abbrev pub form_of : Text → List CallRow → Option Form

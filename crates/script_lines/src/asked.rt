@@ -1,7 +1,7 @@
 //! The call that a word names, with its arguments.
 
 ghost use Rattle.std.specs.Prelude.{◌≡◌, IfSome, None, map};
-ghost use Rattle.papi_base.specs.CallNames.{word_of};
+ghost use Rattle.call_type.specs.CallNames.{word_of};
 ghost use Rattle.script_lines.specs.Answers.{Answers};
 ghost use Rattle.script_lines.specs.Calls as Calls;
 
@@ -10,12 +10,13 @@ use crate::arguments::{
 };
 use crate::fault::ScriptCause;
 use crate::script::Written;
-use call_type::{Asked, Call};
-use papi_base::{CallName, Text, call_word};
+use call_type::{Asked, Call, CallName, call_word};
+use papi_base::Text;
 use std::alloc::Global;
 use table_rows::RowRefusal;
 
 // The names of all calls, in the order of the table of calls.
+// tools/make_calls: begin names
 const NAMES: [CallName; 24] = [
     CallName::Register,
     CallName::Unregister,
@@ -42,6 +43,7 @@ const NAMES: [CallName; 24] = [
     CallName::Code,
     CallName::Name,
 ];
+// tools/make_calls: end
 
 // The calls that long scripts repeat.
 const FREQUENT: [CallName; 3] = [CallName::Read, CallName::Accum, CallName::Run];
@@ -89,6 +91,7 @@ fn eventless_call(name: CallName, arguments: &[&[u8]]) -> Result<Written, Script
     ensures { result ≡ Calls.call_of (word_of name) (map (λ w. w.now) arguments.now) }
 {
     match name {
+        // tools/make_calls: begin arms
         CallName::Register => nothing(arguments).map(|_none| Asked::Call(Call::Register)),
         CallName::Unregister => nothing(arguments).map(|_none| Asked::Call(Call::Unregister)),
         CallName::Threads => nothing(arguments).map(|_none| Asked::Threads),
@@ -123,6 +126,7 @@ fn eventless_call(name: CallName, arguments: &[&[u8]]) -> Result<Written, Script
         }
         CallName::Run => one_number(arguments).map(|n| Asked::Call(Call::Run { n })),
         CallName::Name => one_code(arguments).map(|code| Asked::NameOf(code)),
+        // tools/make_calls: end
         _ => unreachable!(),
     }
 }
@@ -137,6 +141,7 @@ fn call_with(
     ensures { Answers result (Calls.call_of (word_of name) (map (λ w. w.now) arguments.now)) }
 {
     match name {
+        // tools/make_calls: begin events
         CallName::Add => {
             let (set, event) = set_and_event(arguments)?;
             let e = Text::copy_of(alloc, event)?;
@@ -156,6 +161,7 @@ fn call_with(
             let event = Text::copy_of(alloc, one_event(arguments)?)?;
             Ok(Asked::CodeOf(event))
         }
+        // tools/make_calls: end
         _ => Ok(eventless_call(name, arguments)?),
     }
 }

@@ -8,7 +8,7 @@ use Rattle.std.specs.Prelude.{All, Ok, if◌then◌else◌}
 use Rattle.component_table.specs.Catalogs.{CatalogView, looked_up, shape_of}
 use Rattle.call_type.specs.Calls.{call_with, name_of, name_of_call}
 use Rattle.call_type.specs.declared.call.Call.{Call as CallOf}
-use Rattle.papi_base.specs.declared.call_name.CallName.{CallName}
+use Rattle.call_type.specs.declared.call_name.CallName.{CallName}
 use Rattle.papi_base.specs.declared.limits.TheConstants.{THREADS}
 use Rattle.papi_base.specs.declared.native.EventRef.TheVariants as event
 use Rattle.papi_base.specs.declared.native.Native.{Native}

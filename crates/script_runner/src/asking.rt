@@ -18,6 +18,7 @@ fn call_with(catalog: &Catalog, call: &call_type::Call<Text>) -> Call
     ensures good { IsGood catalog.now.book (shape_of catalog.now.tables) result }
 {
     match *call {
+        // tools/make_calls: begin
         call_type::Call::Register => Call::Register,
         call_type::Call::Unregister => Call::Unregister,
         call_type::Call::Create => Call::Create,
@@ -48,6 +49,7 @@ fn call_with(catalog: &Catalog, call: &call_type::Call<Text>) -> Call
         call_type::Call::Assign { set } => Call::Assign { set },
         call_type::Call::Raw { set, c } => Call::Raw { set, c },
         call_type::Call::Run { n } => Call::Run { n },
+        // tools/make_calls: end
     }
 }
 

@@ -9,7 +9,7 @@ use Rattle.std.proofs.lemmas.List.FromFn.{get_or-map-range_with_len}
 use Rattle.std.proofs.Math.Seq.{take-suc}
 use Rattle.std.specs.List.{range_with_len}
 use Rattle.std.specs.Option.{option_map, option_or}
-use Rattle.papi_base.specs.declared.call_name.CallName.TheVariants as name
+use Rattle.call_type.specs.declared.call_name.CallName.TheVariants as name
 use Rattle.papi_base.specs.declared.code.Code.TheVariants as code
 use Rattle.session_model.specs.Replies.{plain}
 use Rattle.session_model.specs.declared.reply.Reply.{Reply}
@@ -95,7 +95,7 @@ marked lines i l marks y e within is small or =
     (own ∙ ap (mark_at (done ++ l ∷ [])) (let q : l.thread ≡ 0 + l.thread = omega arith in q))
     ∙ ap (λ ls. map (mark_at ls) (range_with_len 0 64)) more
 
--- a line, where a list has none
+-- a line in place of one that a list does not have
 some_reply : ReplyLine
 some_reply = record { line = 0; thread = 0; word = name.Run; reply = plain code.Ok }
 

@@ -1,5 +1,6 @@
 -- A call that is not a run leaves the stream alone, and notes nothing.
 use Rattle.std.proofs.Common.{◌≡◌, ℕ, false, List, [], ◌++◌, refl, ap, sym, subst, ◌∙◌, ap₂, append-nil, Option, Some, None}
+use Rattle.std.specs.Option.{option_map_or}
 use Rattle.papi_base.specs.declared.occurrence.Occ.{Occ}
 use Rattle.papi_base.specs.Streams.{Coming, Mark}
 use Rattle.overflow_dispatch.specs.Notes.{PartAdded}
@@ -11,10 +12,10 @@ use Rattle.event_sets.specs.declared.refusal.Refusal.TheVariants.{Plain, Conflic
 use Rattle.session_model.specs.CallTypes.{Call}
 use Rattle.call_type.specs.declared.call.Call.TheVariants as call
 use Rattle.session_model.specs.declared.reply.Body.{Body}
+use Rattle.session_model.specs.declared.reply.Body.TheVariants as body
 use Rattle.session_model.specs.declared.reply.Reply.{Reply}
 use Rattle.session_model.specs.Account.{Account}
-use Rattle.session_model.specs.Faces.{at}
-use Rattle.session_model.specs.Replies.{refused, shown}
+use Rattle.session_model.specs.Replies.{refused}
 use Rattle.session_model.specs.Step.{account_refusal, performed, step, unless}
 use Rattle.stream_reader.specs.Reader.{ReaderView, coming, nothing}
 use Rattle.thread_core.specs.CoreView.{CoreView}
@@ -33,20 +34,13 @@ record IsQuiet (a : Account) (after : Account) (reply : Reply) (notes : List Not
   pub none : notes ≡ []
   pub sound : IsFaultReply reply → ⊥
 
-shown_sound : {X : Type 0} (f : X → Body) → ((x : X) → IsFaultBody (f x) → ⊥) → (place : Option X) → (sets : List (Option X)) (k : ℕ) → at sets k ≡ place → IsFaultReply (shown f sets k) → ⊥
-shown_sound f sound None sets k e = rw e (λ x. x)
-shown_sound f sound (Some x) sets k e = rw e (sound x)
+shown_sound : {X : Type 0} (f : X → Body) (place : Option X) → ((x : X) → IsFaultBody (f x) → ⊥) → IsFaultBody (option_map_or f place body.Nothing) → ⊥
+shown_sound f None sound x = x
+shown_sound f (Some s) sound x = sound s x
 
 performed_quiet : (book : Book) (shape : Widths) (a : Account) (made : Call) → is_run made ≡ false → IsQuiet a (performed book shape a made).account (performed book shape a made).reply (performed book shape a made).notes
 performed_quiet book shape a (call.Run n) e = absurd cc
-performed_quiet book shape a (call.Stop k) e = record { rest = refl; mark = refl; none = refl; sound = shown_sound _ (λ s x. x) _ a.sets k refl }
-performed_quiet book shape a (call.Read k) e = record { rest = refl; mark = refl; none = refl; sound = shown_sound _ (λ s x. x) _ a.sets k refl }
-performed_quiet book shape a (call.Accum k) e = record { rest = refl; mark = refl; none = refl; sound = shown_sound _ (λ s x. x) _ a.sets k refl }
-performed_quiet book shape a (call.State k) e = record { rest = refl; mark = refl; none = refl; sound = shown_sound _ (λ s x. x) _ a.sets k refl }
-performed_quiet book shape a (call.ListEvents k) e = record { rest = refl; mark = refl; none = refl; sound = shown_sound _ (λ s x. x) _ a.sets k refl }
-performed_quiet book shape a (call.Assign k) e = record { rest = refl; mark = refl; none = refl; sound = shown_sound _ (λ s x. x) _ a.sets k refl }
-performed_quiet book shape a (call.Raw k c) e = record { rest = refl; mark = refl; none = refl; sound = shown_sound _ (λ s x. x) _ a.sets k refl }
-performed_quiet book shape a made e = record { rest = refl; mark = refl; none = refl; sound = λ x. x }
+performed_quiet book shape a made e = record { rest = refl; mark = refl; none = refl; sound = search (shown_sound) }
 
 refused_sound : (r : Refusal) → IsFaultReply (refused r) → ⊥
 refused_sound (Plain c) x = x

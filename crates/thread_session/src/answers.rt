@@ -122,6 +122,7 @@ pub(crate) fn make(core: &mut Core, book: &PresetBook, c: &Call) -> Reply
     ensures { Follows book.now core.old core.new c.now result }
 {
     match c {
+        // tools/make_calls: begin
         Call::Register => plain(core.register(book)),
         Call::Unregister => plain(core.unregister(book)),
         Call::Create => reply(core.create(book).map(Body::SetNumber)),
@@ -143,5 +144,6 @@ pub(crate) fn make(core: &mut Core, book: &PresetBook, c: &Call) -> Reply
         Call::Assign { set } => reply(core.assign(book, *set).map(Body::Assigned)),
         Call::Raw { set, c } => reply(core.raw(book, *set, *c).map(Body::Register)),
         Call::Run { .. } => unreachable!(),
+        // tools/make_calls: end
     }
 }

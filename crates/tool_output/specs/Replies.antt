@@ -4,9 +4,9 @@ use Rattle.std.specs.Fmt.{signed_decimal}
 use Rattle.std.specs.Int.{bit_at}
 use Rattle.std.specs.List.{flat_map, range_with_len}
 use Rattle.std.specs.Option.{option_map_or}
-use Rattle.papi_base.specs.CallNames.{word_of}
+use Rattle.call_type.specs.CallNames.{word_of}
 use Rattle.papi_base.specs.Codes.{name_of}
-use Rattle.papi_base.specs.declared.call_name.CallName.{CallName}
+use Rattle.call_type.specs.declared.call_name.CallName.{CallName}
 use Rattle.papi_base.specs.declared.limits.TheConstants.{MOST_COUNTERS, THREADS}
 use Rattle.papi_base.specs.declared.native.Native.{Native}
 use Rattle.event_sets.specs.declared.refusal.Clash.{Clash}

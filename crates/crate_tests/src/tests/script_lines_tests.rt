@@ -1,5 +1,5 @@
 //! A script with returns and empty lines, which no row of `worked_rows` can have.
-use papi_base::CallName;
+use call_type::CallName;
 use script_lines::read_script;
 use std::test::Fail;
 

@@ -3,7 +3,8 @@ ghost use Rattle.std.specs.Prelude.{◌≡◌, ◌<◌, All, Some, length, map, 
 ghost use Rattle.thread_registry.specs.Answers.{AllAnswered, IsAnswered, answer_of, line_of};
 
 use crate::runner::result::ReplyLine;
-use papi_base::{CallName, Code, EventRef};
+use call_type::CallName;
+use papi_base::{Code, EventRef};
 use reply_lists::Replies;
 use session_model::{Body, Ended, Reply};
 use std::marker::Model;

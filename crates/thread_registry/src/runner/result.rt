@@ -1,6 +1,7 @@
 //! What a run gives.
 use crate::runner::lines::ReplyLines;
-use papi_base::{CallName, THREADS};
+use call_type::CallName;
+use papi_base::THREADS;
 use session_model::{Ended, Reply};
 
 /// The reply to a line: the number of its script line from 1, its thread, the name of its call, and the reply.

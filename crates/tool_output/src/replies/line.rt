@@ -1,14 +1,15 @@
 //! The line of a reply.
 
 ghost use Rattle.std.specs.Prelude.{◌≡◌, ◌++◌, ◌∷◌, OnOk, decimal, string_bytes};
-ghost use Rattle.papi_base.specs.CallNames.{word_of};
+ghost use Rattle.call_type.specs.CallNames.{word_of};
 ghost use Rattle.papi_base.specs.Codes.{name_of};
 ghost use Rattle.tool_output.specs.Replies.{line_text, reply_text};
 
 use crate::replies::numbers::{push_decimal, push_number, push_word};
 use crate::replies::results::push_results;
+use call_type::{CallName, call_word};
 use component_table::Catalog;
-use papi_base::{CallName, Code, call_word, code_name};
+use papi_base::{Code, code_name};
 use session_model::Reply;
 use std::alloc::AllocError;
 

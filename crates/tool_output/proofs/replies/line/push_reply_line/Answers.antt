@@ -1,5 +1,5 @@
 use Rattle.std.specs.Prelude.{decimal}
-use Rattle.papi_base.specs.CallNames.{word_of}
+use Rattle.call_type.specs.CallNames.{word_of}
 use Rattle.tool_output.specs.Replies.{line_text, reply_text}
 use Rattle.tool_output.proofs.Texts.{line_joined}
 use Rattle.tool_output.proofs.replies.line.push_reply_line.Goals as goal

@@ -1,10 +1,11 @@
 //! The names of the calls that a script makes.
 ghost use Rattle.std.specs.Prelude.{◌≡◌};
-ghost use Rattle.papi_base.specs.CallNames.{word_of};
+ghost use Rattle.call_type.specs.CallNames.{word_of};
 
 /// The name of a call of a script, in the order of the table of calls: docs/FORMATS.md.
 #[derive(Clone, Copy, Debug, PartialEq, Eq)]
 pub enum CallName {
+    // tools/make_calls: begin names
     Register,
     Unregister,
     Threads,
@@ -29,6 +30,7 @@ pub enum CallName {
     Run,
     Code,
     Name,
+    // tools/make_calls: end
 }
 
 /// The word by which a script makes the call.
@@ -36,6 +38,7 @@ pub fn call_word(name: CallName) -> &'static str
     ensures word { result.now ≡ word_of name }
 {
     match name {
+        // tools/make_calls: begin words
         CallName::Register => "register",
         CallName::Unregister => "unregister",
         CallName::Threads => "threads",
@@ -60,5 +63,6 @@ pub fn call_word(name: CallName) -> &'static str
         CallName::Run => "run",
         CallName::Code => "code",
         CallName::Name => "name",
+        // tools/make_calls: end
     }
 }

@@ -1,10 +1,11 @@
 -- The words of a script's calls: this project's own format, docs/FORMATS.md.
 use Rattle.std.specs.Prelude.{ℕ, List, codes}
-use Rattle.papi_base.specs.declared.call_name.CallName.{CallName}
-use Rattle.papi_base.specs.declared.call_name.CallName.TheVariants as name
+use Rattle.call_type.specs.declared.call_name.CallName.{CallName}
+use Rattle.call_type.specs.declared.call_name.CallName.TheVariants as name
 
 -- the word of a call
 abbrev pub word_of : CallName → List ℕ
+-- tools/make_calls: begin
 word_of name.Register = codes "register"
 word_of name.Unregister = codes "unregister"
 word_of name.Threads = codes "threads"
@@ -29,3 +30,5 @@ word_of name.Raw = codes "raw"
 word_of name.Run = codes "run"
 word_of name.Code = codes "code"
 word_of name.Name = codes "name"
+
+-- tools/make_calls: end
