@@ -2,11 +2,14 @@
 
 from __future__ import annotations
 
+import os
 import shutil
 import subprocess
 from pathlib import Path
+from typing import Iterable
 
-from parts.preset_table import BEGIN, MADE, NUMBERS, REGIONS, TABLE, with_number
+from parts import call_table, tool_lists, tool_table
+from parts.preset_table import MADE, NUMBERS, REGIONS, TABLE, with_number
 from tests.support import ROOT, InFolder, needs_command, some
 
 
@@ -48,19 +51,32 @@ class Made(InFolder):
         self.copy("c/limits.h", *(f"crates/{crate}/src/limits.rt" for crate in ("papi_base", "papi_tools", "stream_reader")))
         self.check("make_limits", self.folder / "c/limits.h", "writes it")
 
-    def test_tables_of_presets(self) -> None:
-        self.copy(TABLE, *(name for name in MADE if not name.startswith("bin/hints")))
-        self.assertEqual(self.run_tool("make_presets", "--check"), (0, "", ""))
-        whole = {name: (self.folder / name).read_bytes() for name in some(REGIONS)}
-        for name, content in whole.items():
-            head, mark, rest = content.partition(BEGIN.encode())
+    def test_what_all_tools_have(self) -> None:
+        self.copy(tool_table.TABLE, "bin/usage", *(name for name in tool_lists.made_texts() if not name.startswith("bin/usage")))
+        for name in ("bin/papi_run", "examples/first.words"):
+            self.check("make_tools", self.folder / name)
+        self.assertEqual([os.access(self.folder / name, os.X_OK) for name in ("bin/papi_run", "examples/first.words")], [True, False])
+
+    def check_regions(self, tool: str, table: str, made: Iterable[str], regions: Iterable[str]) -> None:
+        """A line more in a region is told, stays, and is gone after a call without --check."""
+        self.copy(table, *(name for name in made if not name.startswith("bin/hints")))
+        self.assertEqual(self.run_tool(tool, "--check"), (0, "", ""))
+        for name in some(regions):
+            content = (self.folder / name).read_bytes()
+            head, mark, rest = content.partition(f"tools/{tool}: begin".encode())
             line, end, rest = rest.partition(b"\n")
             changed = head + mark + line + end + b"x\n" + rest
             (self.folder / name).write_bytes(changed)
-            self.assertEqual(self.run_tool("make_presets", "--check"), (1, "", f"make_presets: out of date: {name} (tools/make_presets writes them)\n"))
+            self.assertEqual(self.run_tool(tool, "--check"), (1, "", f"{tool}: out of date: {name} (tools/{tool} writes them)\n"))
             self.assertEqual((self.folder / name).read_bytes(), changed)
-            self.assertEqual(self.run_tool("make_presets"), (0, "", ""))
+            self.assertEqual(self.run_tool(tool), (0, "", ""))
             self.assertEqual((self.folder / name).read_bytes(), content)
+
+    def test_tables_of_calls(self) -> None:
+        self.check_regions("make_calls", call_table.TABLE, call_table.MADE, call_table.REGIONS)
+
+    def test_tables_of_presets(self) -> None:
+        self.check_regions("make_presets", TABLE, MADE, REGIONS)
         texts = {name: (self.folder / name).read_text(encoding="utf-8") for name in MADE if name in some(NUMBERS)}
         for name, text in texts.items():
             (self.folder / name).write_text(with_number(name, text, NUMBERS[name][-1], 999), encoding="utf-8")

@@ -12,7 +12,18 @@ use Rattle.tool_words.specs.Form.{form}
 use Rattle.tool_words.specs.declared.avail.AvailWords.{AvailWords}
 use Rattle.tool_words.specs.declared.chooser.ChooserWords.{ChooserWords}
 use Rattle.tool_words.specs.declared.command.Command.{Command}
-use Rattle.tool_words.specs.declared.command.Command.TheVariants.{Run, Avail, NativeAvail, Decode, EventChooser, Encode, Soak, Profil, Regions}
+-- tools/make_tools: begin uses
+use Rattle.tool_words.specs.declared.command.Command.TheVariants.{Run, Profil, Regions, Avail, NativeAvail, EventChooser, Decode, Encode, Soak}
+use Rattle.papi_tools.specs.Choosing.{chooser_verdict}
+use Rattle.papi_tools.specs.Decoding.{decode_verdict}
+use Rattle.papi_tools.specs.Encoding.{encode_verdict}
+use Rattle.papi_tools.specs.NativeListing.{native_avail_verdict}
+use Rattle.papi_tools.specs.PresetListing.{avail_verdict}
+use Rattle.papi_tools.specs.Profiling.{profil_verdict}
+use Rattle.papi_tools.specs.RegionCounts.{regions_verdict}
+use Rattle.papi_tools.specs.Run.{run_verdict}
+use Rattle.papi_tools.specs.Soaking.{soak_verdict}
+-- tools/make_tools: end uses
 use Rattle.tool_words.specs.declared.decode.DecodeWords.{DecodeWords}
 use Rattle.tool_words.specs.declared.encode.EncodeWords.{EncodeWords}
 use Rattle.tool_words.specs.declared.native_avail.NativeAvailWords.{NativeAvailWords}
@@ -29,12 +40,12 @@ use Rattle.papi_tools.specs.Marks.{is_bad, is_fault, mark_lines, marked_said}
 use Rattle.papi_tools.specs.NativeListing.{native_avail_verdict, natives_said}
 use Rattle.papi_tools.specs.Openings.{Openings, Verdict, and_then, file_bytes, opened, quiet}
 use Rattle.papi_tools.specs.PresetListing.{avail_verdict, presets_said}
-use Rattle.papi_tools.specs.Profiling.{profil_verdict, profiled_of, profiled_over, profiled_verdict}
-use Rattle.papi_tools.specs.RegionCounts.{GivenRegions, calls_of, counted_of, regions_said, regions_verdict, said_with}
-use Rattle.papi_tools.specs.Run.{ran_of, ran_verdict, run_verdict}
+use Rattle.papi_tools.specs.Profiling.{profiled_of, profiled_over, profiled_verdict}
+use Rattle.papi_tools.specs.RegionCounts.{GivenRegions, calls_of, counted_of, regions_said, said_with}
+use Rattle.papi_tools.specs.Run.{ran_of, ran_verdict}
 use Rattle.papi_tools.specs.Running.{given_of, ran_replies}
 use Rattle.papi_tools.specs.Saying.{Says}
-use Rattle.papi_tools.specs.Soaking.{soak_given, soak_verdict, soaked}
+use Rattle.papi_tools.specs.Soaking.{soak_given, soaked}
 use Rattle.papi_tools.specs.Status.{status_of}
 use Rattle.papi_tools.specs.Texts.{text_said}
 use Rattle.papi_tools.specs.Verdict.{ended, refused_said, verdict, verdict_for}
@@ -181,17 +192,20 @@ of_encode openings words = each_given IsOwnSaid (unit_under openings words.unit)
 
 -- ---- a call
 
+-- tools/make_tools: begin rows
 of_command : (openings : Openings) (command : Option Command) → IfOk (verdict_for openings command) Comes
 of_command openings None = tt
 of_command openings (Some (Run words)) = of_run openings words
-of_command openings (Some (Avail words)) = of_quiet (avail_verdict openings words) (of_avail openings words)
-of_command openings (Some (NativeAvail words)) = of_quiet (native_avail_verdict openings words) (of_native_avail openings words)
-of_command openings (Some (Decode words)) = of_quiet (decode_verdict openings words) (of_decode openings words)
-of_command openings (Some (EventChooser words)) = of_quiet (chooser_verdict openings words) (of_chooser openings words)
-of_command openings (Some (Encode words)) = of_quiet (encode_verdict openings words) (of_encode openings words)
-of_command openings (Some (Soak words)) = of_soak words
 of_command openings (Some (Profil words)) = of_profil openings words
 of_command openings (Some (Regions words)) = of_quiet (regions_verdict openings words) (of_regions openings words)
+of_command openings (Some (Avail words)) = of_quiet (avail_verdict openings words) (of_avail openings words)
+of_command openings (Some (NativeAvail words)) = of_quiet (native_avail_verdict openings words) (of_native_avail openings words)
+of_command openings (Some (EventChooser words)) = of_quiet (chooser_verdict openings words) (of_chooser openings words)
+of_command openings (Some (Decode words)) = of_quiet (decode_verdict openings words) (of_decode openings words)
+of_command openings (Some (Encode words)) = of_quiet (encode_verdict openings words) (of_encode openings words)
+of_command openings (Some (Soak words)) = of_soak words
+
+-- tools/make_tools: end rows
 
 of_result : (result : Result Verdict Refusal) → IfOk result Comes → IsOwnSaid (ended result).said
 of_result (Ok v) h = h

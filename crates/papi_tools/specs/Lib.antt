@@ -1,24 +1,26 @@
-pub mod Carried
-pub mod Causes
+-- tools/make_tools: begin verdicts
 pub mod Choosing
-pub mod Contents
 pub mod Decoding
 pub mod Encoding
-pub mod ErrorLines
-pub mod Looking
-pub mod Marks
 pub mod NativeListing
-pub mod Openings
-pub mod OwnReplies
-pub mod Outputs
 pub mod PresetListing
 pub mod Profiling
 pub mod RegionCounts
-pub mod RegionTotals
 pub mod Run
+pub mod Soaking
+-- tools/make_tools: end verdicts
+pub mod Carried
+pub mod Causes
+pub mod Contents
+pub mod ErrorLines
+pub mod Looking
+pub mod Marks
+pub mod Openings
+pub mod OwnReplies
+pub mod Outputs
+pub mod RegionTotals
 pub mod Running
 pub mod Saying
-pub mod Soaking
 pub mod Status
 pub mod Streams
 pub mod Texts

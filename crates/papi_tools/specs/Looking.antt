@@ -7,7 +7,9 @@ use Rattle.papi_tools.specs.declared.refusal.Refusal.TheVariants.{BadWords, Cann
 use Rattle.papi_tools.specs.declared.refusal.Stop.{Stop}
 use Rattle.papi_tools.specs.declared.refusal.Stop.TheVariants.{Refused}
 use Rattle.tool_words.specs.declared.command.Command.{Command}
-use Rattle.tool_words.specs.declared.command.Command.TheVariants.{Avail, NativeAvail, EventChooser, Encode, Regions}
+-- tools/make_tools: begin uses
+use Rattle.tool_words.specs.declared.command.Command.TheVariants.{Regions, Avail, NativeAvail, EventChooser, Encode}
+-- tools/make_tools: end uses
 use Rattle.papi_tools.specs.declared.status.Outcome.{Outcome}
 use Rattle.papi_tools.specs.declared.status.Outcome.TheVariants as outcome
 
@@ -83,14 +85,17 @@ LookedBy held misses faults lent answer out files files' = Looked answer out (fi
 
 -- ---- what an outcome shows
 
+-- tools/make_tools: begin rows
 -- the tools that may say no: to the name of an event, to names, or to events that do not go together
 abbrev pub SaysNo : Option Command → Type 0
+SaysNo (Some (Regions words)) = Unit {0}
 SaysNo (Some (Avail words)) = IsSome words.event
 SaysNo (Some (NativeAvail words)) = IsSome words.event
 SaysNo (Some (EventChooser words)) = Unit {0}
 SaysNo (Some (Encode words)) = Unit {0}
-SaysNo (Some (Regions words)) = Unit {0}
 SaysNo _ = ⊥
+
+-- tools/make_tools: end rows
 
 -- a tool that looks at files alone ends with its text, which says no only if it may
 abbrev pub IsTextual : Type 0 → Outcome → Type 0

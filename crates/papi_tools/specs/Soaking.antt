@@ -4,8 +4,8 @@ use Rattle.std.specs.Prelude.{◌==◌, ◌&&◌, ◌-◌, ℕ, ℤ, Bool, true,
 use Rattle.std.specs.Prelude.{Option, Some, None, Result, Ok}
 use Rattle.std.specs.List.{range_with_len}
 use Rattle.papi_base.specs.Outside.{Tape}
-use Rattle.papi_base.specs.declared.call_name.CallName.{CallName}
-use Rattle.papi_base.specs.declared.call_name.CallName.TheVariants.{Stop}
+use Rattle.call_type.specs.declared.call_name.CallName.{CallName}
+use Rattle.call_type.specs.declared.call_name.CallName.TheVariants.{Stop}
 use Rattle.papi_base.specs.declared.outside.Ending.TheVariants.{End}
 use Rattle.overflow_dispatch.specs.declared.handler.Note.{Note}
 use Rattle.session_model.specs.declared.reply.Body.{Body}

@@ -5,36 +5,41 @@ use Rattle.overflow_dispatch.specs.declared.handler.Note.{Note}
 use Rattle.overflow_dispatch.specs.Notes.{EachAdded, EachBegun, EachGrown}
 use Rattle.tool_words.specs.Form.{form}
 use Rattle.tool_words.specs.declared.command.Command.{Command}
-use Rattle.tool_words.specs.declared.command.Command.TheVariants.{Run, Avail, NativeAvail, Decode, EventChooser, Encode, Soak, Profil, Regions}
-use Rattle.papi_tools.specs.Openings.{AnswersBy, ForSome, Openings, Verdict, quiet}
-use Rattle.papi_tools.specs.Looking.{FilesSeen, Shows}
+-- tools/make_tools: begin uses
+use Rattle.tool_words.specs.declared.command.Command.TheVariants.{Run, Profil, Regions, Avail, NativeAvail, EventChooser, Decode, Encode, Soak}
 use Rattle.papi_tools.specs.Choosing.{chooser_verdict}
 use Rattle.papi_tools.specs.Decoding.{decode_verdict}
 use Rattle.papi_tools.specs.Encoding.{encode_verdict}
-use Rattle.papi_tools.specs.ErrorLines.{line_of, outcome_of}
 use Rattle.papi_tools.specs.NativeListing.{native_avail_verdict}
 use Rattle.papi_tools.specs.PresetListing.{avail_verdict}
 use Rattle.papi_tools.specs.Profiling.{profil_verdict}
 use Rattle.papi_tools.specs.RegionCounts.{regions_verdict}
 use Rattle.papi_tools.specs.Run.{run_verdict}
 use Rattle.papi_tools.specs.Soaking.{soak_verdict}
+-- tools/make_tools: end uses
+use Rattle.papi_tools.specs.Openings.{AnswersBy, ForSome, Openings, Verdict, quiet}
+use Rattle.papi_tools.specs.Looking.{FilesSeen, Shows}
+use Rattle.papi_tools.specs.ErrorLines.{line_of, outcome_of}
 use Rattle.papi_tools.specs.declared.refusal.Refusal.{Refusal}
 use Rattle.papi_tools.specs.declared.refusal.Refusal.TheVariants.{BadWords, NoSuchFile}
 use Rattle.papi_tools.specs.declared.refusal.Stop.{Stop}
 use Rattle.papi_tools.specs.declared.refusal.Stop.TheVariants as stop
 use Rattle.papi_tools.specs.declared.said.Said.{Said}
 
+-- tools/make_tools: begin rows
 -- what a command comes to: a row for each tool
 abbrev pub command_verdict : Openings → Command → Result Verdict Refusal
 command_verdict openings (Run words) = run_verdict openings words
-command_verdict openings (Avail words) = quiet (avail_verdict openings words)
-command_verdict openings (NativeAvail words) = quiet (native_avail_verdict openings words)
-command_verdict openings (Decode words) = quiet (decode_verdict openings words)
-command_verdict openings (EventChooser words) = quiet (chooser_verdict openings words)
-command_verdict openings (Encode words) = quiet (encode_verdict openings words)
-command_verdict openings (Soak words) = soak_verdict words
 command_verdict openings (Profil words) = profil_verdict openings words
 command_verdict openings (Regions words) = quiet (regions_verdict openings words)
+command_verdict openings (Avail words) = quiet (avail_verdict openings words)
+command_verdict openings (NativeAvail words) = quiet (native_avail_verdict openings words)
+command_verdict openings (EventChooser words) = quiet (chooser_verdict openings words)
+command_verdict openings (Decode words) = quiet (decode_verdict openings words)
+command_verdict openings (Encode words) = quiet (encode_verdict openings words)
+command_verdict openings (Soak words) = soak_verdict words
+
+-- tools/make_tools: end rows
 
 -- what the words come to, if they are a command
 abbrev pub verdict_for : Openings → Option Command → Result Verdict Refusal

@@ -2,7 +2,8 @@
 ghost use Rattle.std.specs.Prelude.{◌≡◌, IfOk, length};
 ghost use Rattle.papi_tools.specs.Soaking.{stop_values, stops, totals_between, values_of};
 
-use papi_base::{CallName, THREADS, Values};
+use call_type::CallName;
+use papi_base::{THREADS, Values};
 use session_model::Body;
 use soak_input::{SOAK_THREADS, ThreadTotal};
 use std::alloc::{AllocError, Global};

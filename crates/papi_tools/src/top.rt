@@ -7,17 +7,20 @@ ghost use Rattle.papi_tools.specs.Looking.{LookedBy, SaysNo, Shows, StaysHeld, f
 ghost use Rattle.papi_tools.specs.Openings.{ForSome};
 ghost use Rattle.papi_tools.specs.Verdict.{IsSettledAs, ToolTells, command_verdict, verdict_for};
 
+// tools/make_tools: begin uses
 use crate::choosing::choose_events;
 use crate::decoding::decode_presets;
 use crate::encoding::encode_names;
 use crate::native_listing::list_natives;
 use crate::preset_listing::list_presets;
 use crate::profiling::profile;
-use crate::regions::count_regions;
+use crate::region_counts::count_regions;
 use crate::run::run;
+use crate::soaking::soak;
+// tools/make_tools: end uses
+
 use crate::saying::say;
 use crate::settling::{refused, settled};
-use crate::soaking::soak;
 use crate::{Refusal, Said, Status, ToolResult};
 use overflow_dispatch::Handler;
 use papi_base::{Files, Sink, THREADS};
@@ -43,15 +46,17 @@ fn carried_out<R: Threads + Sync, F: Files>(
     ensures held { StaysHeld (F.held files.old) (F.held files.new) }
 {
     match command {
+        // tools/make_tools: begin rows
         Command::Run(words) => run(rt, alloc, files, words, handlers),
-        Command::Avail(words) => list_presets(alloc, files, words),
-        Command::NativeAvail(words) => list_natives(alloc, files, words),
-        Command::Decode(words) => decode_presets(alloc, files, words),
-        Command::EventChooser(words) => choose_events(alloc, files, words),
-        Command::Encode(words) => encode_names(alloc, files, words),
-        Command::Soak(words) => soak(rt, alloc, words, handlers),
         Command::Profil(words) => profile(rt, alloc, files, words, handlers),
         Command::Regions(words) => count_regions(rt, alloc, files, words),
+        Command::Avail(words) => list_presets(alloc, files, words),
+        Command::NativeAvail(words) => list_natives(alloc, files, words),
+        Command::EventChooser(words) => choose_events(alloc, files, words),
+        Command::Decode(words) => decode_presets(alloc, files, words),
+        Command::Encode(words) => encode_names(alloc, files, words),
+        Command::Soak(words) => soak(rt, alloc, words, handlers),
+        // tools/make_tools: end rows
     }
 }
 

@@ -3,16 +3,18 @@ use Rattle.std.specs.Prelude.{List, [], ◌∷◌, Option, codes, find, option_a
 use Rattle.std.specs.Str.{bytes_eq}
 use Rattle.clap.specs.Words.{Text}
 use Rattle.tool_words.specs.declared.command.Command.{Command}
-use Rattle.tool_words.specs.declared.command.Command.TheVariants.{Run, Avail, NativeAvail, Decode, EventChooser, Encode, Soak, Profil, Regions}
+-- tools/make_tools: begin uses
+use Rattle.tool_words.specs.declared.command.Command.TheVariants.{Run, Profil, Regions, Avail, NativeAvail, EventChooser, Decode, Encode, Soak}
+use Rattle.tool_words.specs.RunForm.{run_form}
+use Rattle.tool_words.specs.ProfilForm.{profil_form}
+use Rattle.tool_words.specs.RegionsForm.{regions_form}
 use Rattle.tool_words.specs.AvailForm.{avail_form}
+use Rattle.tool_words.specs.NativeAvailForm.{native_avail_form}
 use Rattle.tool_words.specs.ChooserForm.{chooser_form}
 use Rattle.tool_words.specs.DecodeForm.{decode_form}
 use Rattle.tool_words.specs.EncodeForm.{encode_form}
-use Rattle.tool_words.specs.NativeAvailForm.{native_avail_form}
-use Rattle.tool_words.specs.ProfilForm.{profil_form}
-use Rattle.tool_words.specs.RegionsForm.{regions_form}
-use Rattle.tool_words.specs.RunForm.{run_form}
 use Rattle.tool_words.specs.SoakForm.{soak_form}
+-- tools/make_tools: end uses
 use Rattle.tool_words.specs.Words.{ToolForm, read_by}
 
 -- a tool: its name, and the command that words ask for which begin with it
@@ -24,19 +26,22 @@ pub record Tool : Type 0 where
 abbrev pub tool : {A : Type 0} → Text → (A → Command) → ToolForm A → Tool
 tool name command form = record { name = name; asks = λ words. option_map command (read_by form words) }
 
+-- tools/make_tools: begin rows
 -- the tools, a row each
 abbrev pub tools : List Tool
 tools =
     tool (codes "papi_run") Run run_form
-    ∷ tool (codes "papi_avail") Avail avail_form
-    ∷ tool (codes "papi_native_avail") NativeAvail native_avail_form
-    ∷ tool (codes "papi_decode") Decode decode_form
-    ∷ tool (codes "papi_event_chooser") EventChooser chooser_form
-    ∷ tool (codes "papi_encode") Encode encode_form
-    ∷ tool (codes "papi_soak") Soak soak_form
     ∷ tool (codes "papi_profil") Profil profil_form
     ∷ tool (codes "papi_regions") Regions regions_form
+    ∷ tool (codes "papi_avail") Avail avail_form
+    ∷ tool (codes "papi_native_avail") NativeAvail native_avail_form
+    ∷ tool (codes "papi_event_chooser") EventChooser chooser_form
+    ∷ tool (codes "papi_decode") Decode decode_form
+    ∷ tool (codes "papi_encode") Encode encode_form
+    ∷ tool (codes "papi_soak") Soak soak_form
     ∷ []
+
+-- tools/make_tools: end rows
 
 -- the tool that the words name
 abbrev pub tool_of : List Text → Text

@@ -1,5 +1,6 @@
 //! What the words ask for.
 
+// tools/make_tools: begin words
 use crate::avail::AvailWords;
 use crate::chooser::ChooserWords;
 use crate::decode::DecodeWords;
@@ -9,26 +10,29 @@ use crate::profil::ProfilWords;
 use crate::regions::RegionsWords;
 use crate::run::RunWords;
 use crate::soak::SoakWords;
+// tools/make_tools: end words
 
 /// A tool, with what its words ask for.
 #[derive(Drop)]
 pub enum Command {
-    /// `papi_run`: carries out a script.
+    // tools/make_tools: begin variants
+    /// `papi_run`: carries out a script of PAPI calls over recorded occurrences.
     Run(RunWords),
-    /// `papi_avail`: lists the presets of a processor.
-    Avail(AvailWords),
-    /// `papi_native_avail`: lists native events.
-    NativeAvail(NativeAvailWords),
-    /// `papi_decode`: gives the presets of a processor.
-    Decode(DecodeWords),
-    /// `papi_event_chooser`: lists the events that can be added to given ones.
-    EventChooser(ChooserWords),
-    /// `papi_encode`: gives the codes of events.
-    Encode(EncodeWords),
-    /// `papi_soak`: counts a large input that it makes.
-    Soak(SoakWords),
-    /// `papi_profil`: counts where in a program thresholds were passed.
+    /// `papi_profil`: shows where in a program an event passed its threshold.
     Profil(ProfilWords),
-    /// `papi_regions`: counts by region of a program.
+    /// `papi_regions`: counts events by region of a program.
     Regions(RegionsWords),
+    /// `papi_avail`: lists the presets that the program knows, or shows one.
+    Avail(AvailWords),
+    /// `papi_native_avail`: lists the native events and their umasks, or shows one.
+    NativeAvail(NativeAvailWords),
+    /// `papi_event_chooser`: lists the events that can still be added to given ones.
+    EventChooser(ChooserWords),
+    /// `papi_decode`: writes the presets of a processor as a preset file.
+    Decode(DecodeWords),
+    /// `papi_encode`: prints the codes of native events.
+    Encode(EncodeWords),
+    /// `papi_soak`: runs a large generated script on four threads.
+    Soak(SoakWords),
+    // tools/make_tools: end variants
 }

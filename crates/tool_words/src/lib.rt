@@ -6,39 +6,47 @@ ghost use Rattle.tool_words.specs.Form.{form, tool_of};
 ghost use Rattle.tool_words.specs.Words.{Answers};
 
 mod argument;
-pub mod avail;
-pub mod chooser;
 pub mod command;
 pub mod count;
-pub mod decode;
-pub mod encode;
 pub mod fault;
 mod matches;
-pub mod native_avail;
 pub mod presets;
-pub mod profil;
-pub mod regions;
-pub mod run;
 mod script;
-pub mod soak;
 pub mod streams;
 pub mod texts;
 mod tool;
 pub mod workers;
 
+// tools/make_tools: begin modules
+pub mod avail;
+pub mod chooser;
+pub mod decode;
+pub mod encode;
+pub mod native_avail;
+pub mod profil;
+pub mod regions;
+pub mod run;
+pub mod soak;
+
 pub use avail::AvailWords;
-pub use chooser::{ChooserWords, EventKind};
-pub use command::Command;
-pub use count::Count;
+pub use chooser::ChooserWords;
 pub use decode::DecodeWords;
 pub use encode::EncodeWords;
-pub use fault::WordsFault;
 pub use native_avail::NativeAvailWords;
-pub use presets::PresetWords;
-pub use profil::{LAST_INDEX, LAST_SET, LAST_THREAD, ProfilWords};
-pub use regions::{EventTexts, RegionsWords};
+pub use profil::ProfilWords;
+pub use regions::RegionsWords;
 pub use run::RunWords;
-pub use soak::{MOST_ROUNDS, Rounds, SoakWords};
+pub use soak::SoakWords;
+// tools/make_tools: end modules
+
+pub use chooser::EventKind;
+pub use command::Command;
+pub use count::Count;
+pub use fault::WordsFault;
+pub use presets::PresetWords;
+pub use profil::{LAST_INDEX, LAST_SET, LAST_THREAD};
+pub use regions::EventTexts;
+pub use soak::{MOST_ROUNDS, Rounds};
 use std::alloc::Global;
 pub use streams::StreamNames;
 pub use texts::Texts;
@@ -53,15 +61,17 @@ pub fn read_words(alloc: Global, words: &[String]) -> Result<Command, WordsFault
     ensures { Answers result (form (map string_bytes words.now)) }
 {
     match tool_in(words) {
+        // tools/make_tools: begin rows
         "papi_run" => Ok(Command::Run(read_tool(alloc, words)?)),
-        "papi_avail" => Ok(Command::Avail(read_tool(alloc, words)?)),
-        "papi_native_avail" => Ok(Command::NativeAvail(read_tool(alloc, words)?)),
-        "papi_decode" => Ok(Command::Decode(read_tool(alloc, words)?)),
-        "papi_event_chooser" => Ok(Command::EventChooser(read_tool(alloc, words)?)),
-        "papi_encode" => Ok(Command::Encode(read_tool(alloc, words)?)),
-        "papi_soak" => Ok(Command::Soak(read_tool(alloc, words)?)),
         "papi_profil" => Ok(Command::Profil(read_tool(alloc, words)?)),
         "papi_regions" => Ok(Command::Regions(read_tool(alloc, words)?)),
+        "papi_avail" => Ok(Command::Avail(read_tool(alloc, words)?)),
+        "papi_native_avail" => Ok(Command::NativeAvail(read_tool(alloc, words)?)),
+        "papi_event_chooser" => Ok(Command::EventChooser(read_tool(alloc, words)?)),
+        "papi_decode" => Ok(Command::Decode(read_tool(alloc, words)?)),
+        "papi_encode" => Ok(Command::Encode(read_tool(alloc, words)?)),
+        "papi_soak" => Ok(Command::Soak(read_tool(alloc, words)?)),
+        // tools/make_tools: end rows
         _ => Err(WordsFault::BadWords),
     }
 }

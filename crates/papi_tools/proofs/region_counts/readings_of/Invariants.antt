@@ -1,7 +1,7 @@
 use Rattle.std.proofs.Common.{◌≡◌, take}
 use Rattle.region_report.specs.Spans.{reading_values}
 use Rattle.papi_tools.specs.RegionCounts.{readings_in}
-use Rattle.papi_tools.proofs.regions.readings_of.Given as goal
+use Rattle.papi_tools.proofs.region_counts.readings_of.Given as goal
 
 abbrev pub invariant-loop-i : goal.invariant-loop-i
 invariant-loop-i l = reading_values l.readings.items ≡ readings_in (take l.i l.lines)

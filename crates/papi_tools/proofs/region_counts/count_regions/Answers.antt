@@ -7,7 +7,7 @@ use Rattle.papi_tools.specs.Running.{CanBeGivenRun, given_of}
 use Rattle.papi_tools.proofs.FindingLemmas.{failed, failed_after, refused, refused_first, so_after, so_at_end}
 use Rattle.papi_tools.proofs.HoldingLemmas.{both_held, held_then}
 use Rattle.papi_tools.proofs.RunLemmas.{shows_later}
-use Rattle.papi_tools.proofs.regions.count_regions.Goals as goal
+use Rattle.papi_tools.proofs.region_counts.count_regions.Goals as goal
 
 read_as : (lines : List RegionLine) (name : List ℕ) → (bytes : List ℕ) × (regions_in name bytes ≡ Ok lines) → (n bytes : List ℕ) × (regions_in n bytes ≡ Ok lines)
 read_as lines name (bytes, is) = (name, bytes, is)

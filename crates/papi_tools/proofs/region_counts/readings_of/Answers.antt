@@ -1,7 +1,7 @@
 use Rattle.std.proofs.Common.{rules, sym}
 use Rattle.std.proofs.lemmas.Option.{get_or_from_slice_get}
 use Rattle.papi_tools.proofs.RegionLemmas.{reading_more}
-use Rattle.papi_tools.proofs.regions.readings_of.Goals as goal
+use Rattle.papi_tools.proofs.region_counts.readings_of.Goals as goal
 
 pub loop-i-preserved : goal.loop-i-preserved
 loop-i-preserved c =

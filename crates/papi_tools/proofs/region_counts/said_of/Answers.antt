@@ -1,7 +1,7 @@
 use Rattle.std.proofs.Common.{◌∙◌, ap, subst}
 use Rattle.call_laws.specs.Spans.{AllFit}
 use Rattle.region_report.specs.Spans.{reading_values}
-use Rattle.papi_tools.proofs.regions.said_of.Goals as goal
+use Rattle.papi_tools.proofs.region_counts.said_of.Goals as goal
 
 pub returns-clause-fit : goal.returns-clause-fit
 returns-clause-fit c =

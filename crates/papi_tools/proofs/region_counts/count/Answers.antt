@@ -5,7 +5,7 @@ use Rattle.papi_tools.specs.Running.{ran_replies}
 use Rattle.papi_tools.specs.declared.refusal.Stop.TheVariants.{Memory}
 use Rattle.papi_tools.proofs.RegionLemmas.{are_calls, are_events, begun_of, counted_told, nothing_counted, out_of_memory, refused_said, script_is, starved}
 use Rattle.papi_tools.proofs.RunLemmas.{run_shows}
-use Rattle.papi_tools.proofs.regions.count.Goals as goal
+use Rattle.papi_tools.proofs.region_counts.count.Goals as goal
 
 pub calls_of-requires : goal.calls_of-requires
 calls_of-requires g c = are_events _ _ c.as_slice-events.ensures.texts c.as_slice-events.ensures.events
