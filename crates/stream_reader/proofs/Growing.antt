@@ -267,7 +267,7 @@ dry-is Dry h = refl
 dry-is (Bad n c) h = cc h
 dry-is Fault h = cc h
 
--- nothing is said where nothing is left
+-- of no bytes nothing is said, whatever the line before them has begun
 left-says : (start : LineStart) (bytes : List ℕ) → occurs_on ending.End (left_start start bytes) bytes ≡ occurs_on ending.End start bytes
 unfolding occurs_from tape_lines lines_of
 left-says start [] = refl
