@@ -88,6 +88,12 @@ static inline __attribute__((always_inline)) int kl_answer(int code) {
     thread_state *t = kl_here(&code_); \
     if (!t) RETURN(code_)
 
+/* The same of a function that asks for a set by its number: a thread that has ended has no state, and `t` is NULL. */
+#define HERE_OR_PAST(t) \
+    int code_; \
+    thread_state *t = kl_here(&code_); \
+    if (!t && !kl_is_past()) RETURN(code_)
+
 /* calls.c: around a function or a handler of the user the thread leaves its outermost call, and enters it again. A thread that the tool has stopped is in the
  * library too. */
 kl_outside kl_user_begins(void);

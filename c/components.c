@@ -51,7 +51,7 @@ int kl_check_enabled(thread_state *t, uint32_t own) {
 int kl_check_known(thread_state *t, const char *name) {
     uint32_t own = 0;
     if (!is_any_disabled()) return PAPI_OK;
-    int code = kistalub_name_to_code(&t->library, (const unsigned char *)name, strlen(name), &own);
+    int code = kistalub_name_to_code(&t->library, (const unsigned char *)name, kl_name_length(name), &own);
     return code == PAPI_OK ? kl_check_enabled(t, own) : PAPI_OK;
 }
 
@@ -162,7 +162,7 @@ int PAPI_disable_component(int component) {
 int PAPI_disable_component_by_name(const char *name) {
     CALL(PAPI_disable_component_by_name);
     if (PAPI_is_initialized() != PAPI_NOT_INITED) RETURN(PAPI_ENOINIT);
-    if (!name || strlen(name) >= PAPI_MAX_STR_LEN) RETURN(PAPI_ENOCMP);
+    if (!name || strnlen(name, PAPI_MAX_STR_LEN) == PAPI_MAX_STR_LEN) RETURN(PAPI_ENOCMP);
     pthread_mutex_lock(&kl_component_lock);
     int has_room = disabled.name_count < MOST_COMPONENTS;
     if (has_room) strcpy(disabled.names[disabled.name_count++], name);
@@ -201,7 +201,7 @@ static int component_of_set(thread_state *t, int set) {
 
 int PAPI_get_eventset_component(int set) {
     CALL(PAPI_get_eventset_component);
-    HERE(t);
+    HERE_OR_PAST(t);
     RETURN(component_of_set(t, set));
 }
 

@@ -45,7 +45,8 @@ int kistalub_go(uint32_t n, uint32_t *went) {
     *went = 0;
     if (kl_interrupts()) return PAPI_OK;
     thread_state *t = kl_here(&code);
-    return t && !t->has_ended ? kl_go(t, n, went) : code;
+    if (!t) return kl_is_past() ? PAPI_OK : code;
+    return kl_go(t, n, went);
 }
 
 int kl_goes_on(thread_state *t) {
@@ -109,8 +110,8 @@ static int is_after_step(asked what) { return what != TO_START && what != TO_RES
 /* Asks it of a set that is not the thread's own: of one of a thread that has ended, to which nothing happens any more, or of none. */
 static __attribute__((noinline)) int ask_elsewhere(thread_state *t, int set, asked what, int64_t *values, uint32_t *count) {
     thread_state *owner = kl_owner_of(t, set);
-    int code = owner == t && !t->has_ended && is_after_step(what) ? kl_goes_on(t) : PAPI_OK;
-    if (owner != t && what == TO_START) code = PAPI_ENOEVST;
+    int code = owner == t && is_after_step(what) ? kl_goes_on(t) : PAPI_OK;
+    if (owner != t && what == TO_START && !kl_was_own(owner)) code = PAPI_ENOEVST;
     if (code == PAPI_OK) code = ask(owner, kl_set_number(owner, set), what, values, count);
     kl_let_owner_go(owner);
     return code;
@@ -121,8 +122,8 @@ static inline __attribute__((always_inline)) int ask_here(int set, asked what, i
     int code;
     thread_state *t = kl_here(&code);
     *count = 0;
-    if (!t) return code;
-    if (kl_set_number(t, set) == UINT32_MAX || t->has_ended) return ask_elsewhere(t, set, what, values, count);
+    if (KL_RARELY(!t) && !kl_is_past()) return code;
+    if (!t || kl_set_number(t, set) == UINT32_MAX) return ask_elsewhere(t, set, what, values, count);
     if (is_after_step(what) && t->step) code = kl_goes_on(t);
     return code == PAPI_OK ? ask(t, kl_set_number(t, set), what, values, count) : code;
 }

@@ -8,7 +8,7 @@
 static int code_named(thread_state *t, const char *name, int *event) {
     uint32_t own = 0;
     int code = kl_check_known(t, name);
-    if (code == PAPI_OK) code = kistalub_name_to_code(&t->library, (const unsigned char *)name, strlen(name), &own);
+    if (code == PAPI_OK) code = kistalub_name_to_code(&t->library, (const unsigned char *)name, kl_name_length(name), &own);
     return code == PAPI_OK ? kl_code_outward(t, own, event) : code;
 }
 

@@ -5,6 +5,8 @@
 #include "locks.h"
 #include "state.h"
 
+#include <string.h>
+
 /* codes.c. Inward: the code of the thread's library for a code of the process. Outward: back. PAPI_ENOMEM. */
 int kl_code_inward(thread_state *t, int code, uint32_t *own);
 int kl_code_outward(thread_state *t, uint32_t own, int *code);
@@ -12,7 +14,9 @@ int kl_note(uint32_t **numbers, uint32_t *count, uint32_t at, uint32_t number);
 void kl_drop_codes(thread_state *t);
 void kl_forget_codes(void);
 
-/* events.c */
+/* events.c. So many bytes of a name are looked at: no event has a longer one, and one that the program hands over may have no end. */
+#define LOOKED_AT 2048
+static inline size_t kl_name_length(const char *name) { return strnlen(name, LOOKED_AT); }
 int kl_ended(int code, char *text, uint64_t room, uint64_t length);
 int kl_name_in(thread_state *t, int event, char *name);
 

@@ -62,7 +62,7 @@ static void take_new(thread_state *t, int stands) {
 /* It happens. The thread's state may be gone then, if a handler ended the library. Nothing happens to a thread that has ended. */
 static void catch_up(uint64_t address) {
     thread_state *t = kl_known();
-    if (!t || !t->live || t->has_ended) return;
+    if (!t || !t->live) return;
     const int stands = kl_in_handler(t);
     kl_change_enters();
     take_new(t, stands);
@@ -160,7 +160,7 @@ static void look_after(thread_state *t, int may_start_or_stop) {
 
 static void look_after_all(int may_start_or_stop) {
     thread_state *t = kl_known();
-    if (t && t->live && !t->has_ended) look_after(t, may_start_or_stop);
+    if (t && t->live) look_after(t, may_start_or_stop);
 }
 
 void kl_live_stops(uint64_t address) {

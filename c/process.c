@@ -87,7 +87,6 @@ static void end_library(int keeps_files) {
     kl_forget_threads();
     kl_forget_ids();
     kl_forget_codes();
-    kl_forget_set_numbers();
     kl_components_end();
     kl_machine_ends();
     if (!keeps_files) take_files(NULL, 0);

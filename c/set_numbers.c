@@ -94,11 +94,13 @@ static thread_state *ended_owner(int set) {
 
 /* A handler of a signal may have interrupted what holds the lock: it finds the thread's own sets alone. */
 thread_state *kl_owner_of(thread_state *t, int set) {
-    if ((!t->has_ended && kl_set_number(t, set) != UINT32_MAX) || kl_interrupts()) return t;
+    static thread_state nobody = { .has_ended = 1 }; /* it has no set */
+    if (kl_interrupts()) return t ? t : &nobody;
+    if (t && kl_set_number(t, set) != UINT32_MAX) return t;
     kl_change_enters();
     pthread_mutex_lock(&kl_ended_lock);
     thread_state *owner = ended_owner(set);
-    if (owner || t->has_ended) return owner ? owner : t;
+    if (owner || !t) return owner ? owner : &nobody;
     pthread_mutex_unlock(&kl_ended_lock);
     kl_change_leaves();
     return t;

@@ -45,7 +45,7 @@ static int destroy(thread_state *t, int set) {
 
 int PAPI_destroy_eventset(int *set) {
     CALL(PAPI_destroy_eventset);
-    HERE(t);
+    HERE_OR_PAST(t);
     if (!set) RETURN(PAPI_EINVAL);
     int code = destroy(t, *set);
     if (code != PAPI_OK) RETURN(code);
@@ -63,7 +63,7 @@ static int clean_up(thread_state *t, int set) {
 
 int PAPI_cleanup_eventset(int set) {
     CALL(PAPI_cleanup_eventset);
-    HERE(t);
+    HERE_OR_PAST(t);
     RETURN(clean_up(t, set));
 }
 
@@ -164,7 +164,7 @@ static int remove_code(thread_state *t, int set, int event) {
 
 int PAPI_remove_event(int set, int event) {
     CALL(PAPI_remove_event);
-    HERE(t);
+    HERE_OR_PAST(t);
     RETURN(remove_code(t, set, event));
 }
 
@@ -173,7 +173,7 @@ static int add_named(thread_state *t, int set, const char *name) {
     if (kl_preset_named(name, &event) == PAPI_OK && stands_for(event)) return add(t, set, event);
     name = kl_spelled(name);
     code = kl_check_known(t, name);
-    if (code == PAPI_OK) code = kistalub_add_named(&t->library, kl_set_number(t, set), (const unsigned char *)name, strlen(name));
+    if (code == PAPI_OK) code = kistalub_add_named(&t->library, kl_set_number(t, set), (const unsigned char *)name, kl_name_length(name));
     return code == PAPI_OK ? take_in(t, set, 0) : code;
 }
 
@@ -190,7 +190,7 @@ static int remove_named(thread_state *t, int set, const char *name) {
     name = kl_spelled(name);
     thread_state *owner = kl_owner_of(t, set);
     int code = kl_events_in(owner, set, &before);
-    if (code == PAPI_OK) code = kistalub_remove_named(&owner->library, kl_set_number(owner, set), (const unsigned char *)name, strlen(name));
+    if (code == PAPI_OK) code = kistalub_remove_named(&owner->library, kl_set_number(owner, set), (const unsigned char *)name, kl_name_length(name));
     if (code == PAPI_OK) follow(owner, set, &before);
     kl_let_owner_go(owner);
     return code;
@@ -198,7 +198,7 @@ static int remove_named(thread_state *t, int set, const char *name) {
 
 int PAPI_remove_named_event(int set, const char *name) {
     CALL(PAPI_remove_named_event);
-    HERE(t);
+    HERE_OR_PAST(t);
     RETURN(name ? remove_named(t, set, name) : PAPI_EINVAL);
 }
 
@@ -258,14 +258,14 @@ static int list(thread_state *t, int set, int *events, int *number) {
 
 int PAPI_list_events(int set, int *events, int *number) {
     CALL(PAPI_list_events);
-    HERE(t);
+    HERE_OR_PAST(t);
     if (!number || *number < 0 || (*number > 0 && !events)) RETURN(PAPI_EINVAL);
     RETURN(list(t, set, events, number));
 }
 
 int PAPI_num_events(int set) {
     CALL(PAPI_num_events);
-    HERE(t);
+    HERE_OR_PAST(t);
     int count = 0, code = list(t, set, NULL, &count);
     RETURN(code == PAPI_OK ? count : code);
 }
@@ -281,7 +281,7 @@ static int state_of(thread_state *t, int set, int *status) {
 
 int PAPI_state(int set, int *status) {
     CALL(PAPI_state);
-    HERE(t);
+    HERE_OR_PAST(t);
     RETURN(status ? state_of(t, set, status) : PAPI_EINVAL);
 }
 

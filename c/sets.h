@@ -47,7 +47,8 @@ void kl_unnumber_set(thread_state *t, uint32_t own);
 void kl_unnumber_sets(thread_state *t);
 void kl_forget_set_numbers(void);
 
-/* The state whose library has a set: the calling thread's, or that of a thread that has ended, which is then held until it is let go. */
+/* The state whose library has a set: the calling thread's, or that of a thread that has ended, which is then held until it is let go. A calling thread that has ended
+ * itself is NULL. */
 thread_state *kl_owner_of(thread_state *t, int set);
 void kl_let_owner_go(thread_state *owner);
 

@@ -48,8 +48,11 @@ static __attribute__((noinline)) void look(kl_signals *s) {
     s->looks++;
 }
 
+/* A tool that puts signals off, such as ThreadSanitizer, may call a handler when they are blocked already: what was blocked before is kept after that. */
 static __attribute__((noinline)) void wait_for_end(kl_signals *s) {
-    pthread_sigmask(SIG_SETMASK, &s->others, &s->before);
+    sigset_t before;
+    pthread_sigmask(SIG_SETMASK, &s->others, &before);
+    s->before = before;
     s->are_waiting = 1;
 }
 
@@ -102,11 +105,12 @@ void kl_core_ends(thread_state *t) {
 
 /* What a thread that is cancelled left undone would look like an interrupted function in its destructors, so it is not. */
 void kl_change_begins(void) {
-    sigset_t others;
+    sigset_t others, before;
     kl_no_cancellation();
     if (!are_met()) return;
     note_others(&others);
-    pthread_sigmask(SIG_SETMASK, &others, &change.before);
+    pthread_sigmask(SIG_SETMASK, &others, &before);
+    change.before = before;
     change.are_waiting = 1;
 }
 

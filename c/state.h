@@ -111,6 +111,11 @@ void kl_release_files(kl_files *held);
  * one, and begins a library of the given generation with it, unless that is 0. */
 thread_state *kl_here(int *code);
 thread_state *kl_known(void);
+/* Whether the calling thread has ended but for its last destructors, in this library: it is none of its threads, and asks for sets by their numbers as others do. Whether
+ * a state was its own, and how much had happened to it. */
+int kl_is_past(void);
+int kl_was_own(const thread_state *owner);
+uint64_t kl_past_time(void);
 int kl_enters(const uint32_t *number, unsigned begun);
 void kl_leaves(void);
 int kl_prepare(void);

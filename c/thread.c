@@ -13,6 +13,8 @@ thread_state *kl_first;
 /* The thread's state, with the generation that it is of: a state that has ended may be closed by another thread when the library ends. Each call looks it up, and
  * calls nothing for that. */
 static _Thread_local struct { thread_state *state; unsigned generation; int is_past; } own __attribute__((tls_model("initial-exec")));
+/* What is left to a thread whose part is closed, while its last destructors run: when that was, and which state it had. Another thread may free that. */
+static _Thread_local struct { const thread_state *state; uint64_t happened; } past;
 static struct { _Atomic pthread_key_t key; atomic_int is_made; int are_forks_guarded; } at_end;
 static uint32_t next_number; /* under kl_lock */
 
@@ -57,19 +59,17 @@ void kl_leaves(void) {
     leave(t);
 }
 
-/* The thread is one of those that have ended. Its sets are known by their numbers until they are destroyed, and it is listed until the library ends. Whether
- * it has a set. */
-static int keep(thread_state *t) {
+/* The thread is one of those that have ended. Its sets are known by their numbers until they are destroyed, and it is listed until the library ends. */
+static void keep(thread_state *t) {
     pthread_mutex_lock(&kl_ended_lock);
     pthread_mutex_lock(&kl_lock);
-    int stays = t->generation == atomic_load(&kl_generation) && (t->is_registered || t->set_count), has_set = stays && t->set_count;
+    int stays = t->generation == atomic_load(&kl_generation) && (t->is_registered || t->set_count);
     if (stays) t->has_ended = 1;
     else unlist(t);
     pthread_mutex_unlock(&kl_lock);
     if (!stays) kl_close_state(t);
-    else if (!has_set) kl_close_library(t);
+    else if (!t->set_count) kl_close_library(t);
     pthread_mutex_unlock(&kl_ended_lock);
-    return has_set;
 }
 
 /* A program stops and reads its sets in destructors of its own, in any of the rounds. */
@@ -80,8 +80,20 @@ static void thread_ends(void *state) {
     t->hold_count = 0; /* a handler may end the thread */
     kl_rate_ends();
     kl_regions_end();
-    if (!keep(t)) own.state = NULL;
+    own.state = NULL;
+    past.state = t;
+    past.happened = t->happened;
+    keep(t);
 }
+
+int kl_is_past(void) {
+    unsigned generation = atomic_load(&kl_generation);
+    return own.is_past && !own.state && generation && own.generation == generation;
+}
+
+int kl_was_own(const thread_state *owner) { return kl_is_past() && past.state == owner; }
+
+uint64_t kl_past_time(void) { return kl_is_past() ? past.happened : 0; }
 
 /* A library that begins anew has none of the threads of the one before. Those that live find that out by themselves. */
 void kl_forget_threads(void) {
@@ -103,6 +115,7 @@ void kl_forget_threads(void) {
         ended = t->next;
         kl_close_state(t);
     }
+    kl_forget_set_numbers();
     pthread_mutex_unlock(&kl_ended_lock);
 }
 

@@ -62,7 +62,7 @@ static uint64_t model_time(clockid_t clock) {
     if (kl_is_live()) return kl_live_cycles(clock == CLOCK_MONOTONIC);
     const thread_state *t = kl_known();
     if (!t || !t->is_opened) t = kl_here(&code);
-    return t ? t->happened : 0;
+    return t ? t->happened : kl_past_time();
 }
 
 static long long cycles(clockid_t clock) {
