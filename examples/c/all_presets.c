@@ -79,6 +79,21 @@ static void one(void) {
     WANT(PAPI_get_event_component(PAPI_DP_OPS), 0);
 }
 
+/* The rates of floating point take the presets that PAPI names for them. */
+static void rates(void) {
+    static const int flips[] = { PAPI_FP_INS, PAPI_VEC_SP, PAPI_VEC_DP }, flops[] = { PAPI_FP_OPS, PAPI_SP_OPS, PAPI_DP_OPS };
+    float real, own, rate;
+    long long events;
+    for (int i = 0; i < 3; i++) {
+        WANT(PAPI_flips_rate(flips[i], &real, &own, &events, &rate), PAPI_OK);
+        WANT(PAPI_rate_stop(), PAPI_OK);
+        WANT(PAPI_flops_rate(flops[i], &real, &own, &events, &rate), PAPI_OK);
+        WANT(PAPI_rate_stop(), PAPI_OK);
+        WANT(PAPI_flips_rate(flops[i], &real, &own, &events, &rate), PAPI_ENOEVNT);
+        WANT(PAPI_flops_rate(flips[i], &real, &own, &events, &rate), PAPI_ENOEVNT);
+    }
+}
+
 int main(void) {
     WANT(PAPI_library_init(PAPI_VER_CURRENT), PAPI_VER_CURRENT);
     int available = described();
@@ -89,6 +104,7 @@ int main(void) {
     WANT(PAPI_query_event(PAPI_CA_SNP), PAPI_ENOEVNT);
     printf("PAPI_DP_OPS %lld\n", counted(PAPI_DP_OPS, NULL));
     printf("PAPI_L1_DCA %lld\n", counted(PAPI_L1_DCA, "PAPI_L1_DCA"));
+    rates();
     printf("%d of %d are available\n", available, ALL);
     PAPI_shutdown();
     return 0;

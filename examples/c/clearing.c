@@ -5,13 +5,8 @@
 static int told;
 
 static void handler(int set, void *address, long long vector, void *context) {
-    int places[2] = { 7, 7 }, number = 2;
-    (void)address; (void)context;
+    (void)set; (void)address; (void)vector; (void)context;
     told++;
-    WANT(vector, 1);
-    WANT(PAPI_get_overflow_event_index(set, vector, places, &number), PAPI_OK);
-    WANT(number, 1);
-    WANT(places[0], 0);
 }
 
 static int state_of(int set) {
@@ -38,6 +33,20 @@ int main(void) {
     WANT(PAPI_get_overflow_event_index(set, 1, places, &number), PAPI_EINVAL);
     WANT(PAPI_add_event(set, inst), PAPI_OK);
     WANT(PAPI_add_event(set, cycles), PAPI_OK);
+
+    /* a bit of a vector is the place of an event */
+    WANT(PAPI_get_overflow_event_index(set, 3, places, &number), PAPI_OK);
+    WANT(number, 2);
+    WANT(places[0] == 0 && places[1] == 1, 1);
+    number = 1;
+    WANT(PAPI_get_overflow_event_index(set, 6, places, &number), PAPI_OK);
+    WANT(number, 1);
+    WANT(places[0], 1);
+    WANT(PAPI_get_overflow_event_index(set, 0, places, &number), PAPI_EINVAL);
+    WANT(PAPI_get_overflow_event_index(set, 1, NULL, &number), PAPI_EINVAL);
+    WANT(PAPI_get_overflow_event_index(set, 1, places, NULL), PAPI_EINVAL);
+    number = 0;
+    WANT(PAPI_get_overflow_event_index(set, 1, places, &number), PAPI_EINVAL);
 
     /* the first threshold of a set is not 0, and has a handler */
     WANT(PAPI_overflow(set, inst, 0, 0, handler), PAPI_EINVAL);
@@ -84,6 +93,19 @@ int main(void) {
     WANT(PAPI_remove_event(set, inst), PAPI_OK);
     WANT(PAPI_add_event(set, inst), PAPI_OK);
     WANT(state_of(set), PAPI_STOPPED);
+
+    /* what an event has goes with it to another place */
+    PAPI_shutdown();
+    WANT(PAPI_library_init(PAPI_VER_CURRENT), PAPI_VER_CURRENT);
+    set = PAPI_NULL;
+    WANT(PAPI_create_eventset(&set), PAPI_OK);
+    WANT(PAPI_add_named_event(set, "CYCLES"), PAPI_OK);
+    WANT(PAPI_add_named_event(set, "INST_RETIRED"), PAPI_OK);
+    WANT(PAPI_event_name_to_code("INST_RETIRED", &inst), PAPI_OK);
+    WANT(PAPI_overflow(set, inst, 1000, 0, handler), PAPI_OK);
+    WANT(PAPI_remove_named_event(set, "CYCLES"), PAPI_OK);
+    count(set);
+    WANT(told, 2);
     PAPI_shutdown();
     puts("each as wanted");
     return 0;

@@ -50,11 +50,22 @@ static void *work(void *unused) {
     return unused;
 }
 
+/* A name of Fortran that is longer than any is cut, and so it is the name of no event. */
+void papif_query_named_event_(const char *name, int *check, int length);
+static void long_name_of_fortran(void) {
+    static char name[100000];
+    int check = PAPI_OK;
+    memset(name, 'A', sizeof name);
+    papif_query_named_event_(name, &check, sizeof name);
+    WANT(check, PAPI_ENOEVNT);
+}
+
 int main(void) {
     pthread_t thread;
     char name[PAPI_MAX_STR_LEN];
     int reference, others[3] = { PAPI_NULL, PAPI_NULL, PAPI_NULL };
     WANT(PAPI_library_init(PAPI_VER_CURRENT), PAPI_VER_CURRENT);
+    long_name_of_fortran();
     for (int i = 0; i < 3; i++) WANT(PAPI_create_eventset(&others[i]), PAPI_OK);
     WANT(PAPI_create_eventset(&main_set), PAPI_OK);
     WANT(main_set, 3);

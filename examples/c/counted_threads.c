@@ -1,9 +1,11 @@
-/* Under tools/count: threads end, one after the other, and then the library. */
+/* Under tools/count: threads end, one after the other, and leave no room for lines behind. Then the library ends. */
 #include "papi.h"
 #include "wanted.h"
+#include <malloc.h>
 #include <pthread.h>
 
-#define THREADS 3
+#define THREADS 4
+#define ROOM 32768 /* for that they stay listed */
 #define TURNS 10000
 
 static void *work(void *unused) {
@@ -21,12 +23,15 @@ static void *work(void *unused) {
 }
 
 int main(void) {
+    size_t before = 0;
     WANT(PAPI_library_init(PAPI_VER_CURRENT), PAPI_VER_CURRENT);
     for (int i = 0; i < THREADS; i++) {
         pthread_t thread;
         WANT(pthread_create(&thread, NULL, work, NULL), 0);
         WANT(pthread_join(thread, NULL), 0);
+        if (i == 0) before = mallinfo2().uordblks;
     }
+    WANT(mallinfo2().uordblks < before + ROOM, 1);
     PAPI_shutdown();
     puts("each thread counted");
     return 0;

@@ -138,6 +138,7 @@ static void forked_over(const char *stream) {
 }
 
 int main(void) {
+    WANT(kistalub_init(NULL, NULL, NULL, NULL), PAPI_EINVAL);
     in_a_handler(0);
     setenv("KISTALUB_STEP", "8", 1);
     in_a_handler(1);

@@ -14,6 +14,12 @@ static int handler(int code) {
     return code == PAPI_EINVAL ? -100 : code;
 }
 
+/* What calls have left below on the stack is something else now. */
+static __attribute__((noinline)) void fill_stack(void) {
+    volatile char below[4096];
+    for (size_t i = 0; i < sizeof below; i++) below[i] = 'x';
+}
+
 static void aborted(int signal) {
     (void)signal;
     _exit(3);
@@ -70,6 +76,11 @@ int main(void) {
     WANT(PAPI_num_events(7), PAPI_ENOEVST);
     WANT(seen, PAPI_ENOEVST);
     WANT(inside, 0);
+    WANT(PAPI_create_eventset(&set), -100);
+    /* and it stays while the level changes */
+    fill_stack();
+    WANT(PAPI_set_debug(PAPI_VERB_ECONT), PAPI_OK);
+    WANT(PAPI_num_components(), 2);
     WANT(PAPI_create_eventset(&set), -100);
     WANT(PAPI_get_opt(PAPI_DEBUG, &option), PAPI_OK);
     WANT(option.debug.handler == handler, 1);

@@ -41,6 +41,19 @@ static void set_handler(void) {
     told = 0;
 }
 
+/* Functions that call others of the library. */
+static void in_inner_functions(void) {
+    int unknown[1] = { PAPI_NATIVE_MASK + 99 }, set = PAPI_NULL;
+    WANT(PAPI_create_eventset(&set), PAPI_OK);
+    WANT(PAPI_add_events(set, unknown, 1), PAPI_ENOEVNT);
+    WANT(told, 1);
+    WANT(PAPI_set_domain(99), PAPI_EINVAL);
+    WANT(told, 2);
+    WANT(PAPI_set_multiplex(set + 1), PAPI_ENOEVST);
+    WANT(told, 3);
+    WANT(PAPI_destroy_eventset(&set), PAPI_OK);
+}
+
 /* The events of no unit: its first thread alone has a stream. */
 static void *without_stream(void *unused) {
     char name[PAPI_MAX_STR_LEN];
@@ -77,6 +90,8 @@ int main(void) {
     set_handler();
     WANT(PAPI_read(0, NULL), PAPI_EINVAL);
     WANT(told, 1);
+    told = 0;
+    in_inner_functions();
     WANT(setenv("KISTALUB_STREAM", "", 1), 0);
     PAPI_shutdown();
     char streams[] = "/tmp/kistalub_handlers_XXXXXX", paths[64], first[64], folder[64];

@@ -63,16 +63,26 @@ static void process(void) {
 /* The attributes of the processor tell of the caches that the environment names. */
 static void caches(void) {
     static const struct { PAPI_dev_attr_e attribute; unsigned value; } wanted[] = {
-        { PAPI_DEV_ATTR__CPU_UINT_L1I_CACHE_SIZE, 0 },           { PAPI_DEV_ATTR__CPU_UINT_L1D_CACHE_SIZE, 32768 },
+        { PAPI_DEV_ATTR__CPU_UINT_L1I_CACHE_SIZE, 16384 },       { PAPI_DEV_ATTR__CPU_UINT_L1D_CACHE_SIZE, 32768 },
         { PAPI_DEV_ATTR__CPU_UINT_L1D_CACHE_LINE_SIZE, 64 },     { PAPI_DEV_ATTR__CPU_UINT_L1D_CACHE_LINE_COUNT, 512 },
         { PAPI_DEV_ATTR__CPU_UINT_L1D_CACHE_ASSOC, 8 },          { PAPI_DEV_ATTR__CPU_UINT_L2U_CACHE_SIZE, 0 },
         { PAPI_DEV_ATTR__CPU_UINT_L3U_CACHE_SIZE, 1048576 },     { PAPI_DEV_ATTR__CPU_UINT_L3U_CACHE_LINE_COUNT, 8192 },
         { PAPI_DEV_ATTR__CPU_UINT_L3U_CACHE_ASSOC, 16 },         { PAPI_DEV_ATTR__CPU_UINT_FAMILY, 0 },
     };
     void *device = NULL;
-    setenv("KISTALUB_CACHES", " l1d=32768,8,64  l3=1048576,16,128 dtlb=64,4,4096", 1);
+    setenv("KISTALUB_CACHES", " l1d=32768,8,64  l3=1048576,16,128 dtlb=64,4,4096 l1i=16384,4,32 itlb=32,2,2147483647", 1);
     WANT(PAPI_library_init(PAPI_VER_CURRENT), PAPI_VER_CURRENT);
-    WANT(PAPI_get_hardware_info()->mem_hierarchy.levels, 3);
+    const PAPI_mh_info_t *told = &PAPI_get_hardware_info()->mem_hierarchy;
+    WANT(told->levels, 3);
+    const PAPI_mh_level_t *first = told->level, *last = told->level + 2;
+    WANT(first->cache[0].type, PAPI_MH_TYPE_INST | PAPI_MH_TYPE_WB | PAPI_MH_TYPE_LRU | PAPI_MH_TYPE_RW_ALLOC);
+    WANT(first->cache[1].type, PAPI_MH_TYPE_DATA | PAPI_MH_TYPE_WB | PAPI_MH_TYPE_LRU | PAPI_MH_TYPE_RW_ALLOC);
+    WANT(last->cache[0].type, PAPI_MH_TYPE_UNIFIED | PAPI_MH_TYPE_WB | PAPI_MH_TYPE_LRU | PAPI_MH_TYPE_RW_ALLOC);
+    WANT(first->tlb[0].type, PAPI_MH_TYPE_INST | PAPI_MH_TYPE_LRU);
+    WANT(first->tlb[0].page_size, 2147483647);
+    WANT(first->tlb[1].type, PAPI_MH_TYPE_DATA | PAPI_MH_TYPE_LRU);
+    WANT(first->tlb[1].num_entries, 64);
+    WANT(first->tlb[1].associativity, 4);
     PAPI_enum_dev_type(PAPI_DEV_TYPE_ENUM__FIRST, &device);
     WANT(PAPI_enum_dev_type(PAPI_DEV_TYPE_ENUM__ALL, &device), PAPI_OK);
     for (size_t i = 0; i < sizeof wanted / sizeof *wanted; i++) {
@@ -118,9 +128,9 @@ int main(void) {
     PAPI_shutdown();
     caches();
     /* A component that is disabled before the library begins is still told of, but has no events. */
-    WANT(PAPI_disable_component(1), PAPI_OK);
+    WANT(PAPI_disable_component(0), PAPI_OK);
     WANT(PAPI_disable_component(99), PAPI_ENOCMP);
-    WANT(PAPI_disable_component_by_name("cpu"), PAPI_OK);
+    WANT(PAPI_disable_component_by_name("net"), PAPI_OK);
     WANT(PAPI_library_init(PAPI_VER_CURRENT), PAPI_VER_CURRENT);
     int event = PAPI_NATIVE_MASK;
     WANT(PAPI_get_component_info(0)->disabled, PAPI_ECMP_DISABLED);

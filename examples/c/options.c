@@ -98,6 +98,10 @@ static void others(int set) {
     WANT(PAPI_get_opt(PAPI_PRELOAD, &o), PAPI_OK);
     WANT(strcmp(o.preload.lib_preload_env, "LD_PRELOAD"), 0);
     WANT(PAPI_get_opt(PAPI_PRELOAD, NULL), PAPI_EINVAL);
+    WANT(PAPI_get_opt(PAPI_EXEINFO, &o), PAPI_OK);
+    WANT(o.exe_info == PAPI_get_executable_info(), 1);
+    WANT(PAPI_get_opt(PAPI_HWINFO, &o), PAPI_OK);
+    WANT(o.hw_info == PAPI_get_hardware_info(), 1);
     WANT(PAPI_set_opt(PAPI_PRELOAD, &o), PAPI_EINVAL);
     WANT(PAPI_set_opt(PAPI_DOMAIN, NULL), PAPI_EINVAL);
     WANT(PAPI_get_opt(9999, &o), PAPI_EINVAL);

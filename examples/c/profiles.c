@@ -28,19 +28,23 @@ static int profil(unsigned *buckets, unsigned size, unsigned scale, int flags) {
 
 /* The stream passes the threshold at the addresses 400000, 400010, 400014, 40001f, 400030 and 400040. */
 static void regions(void) {
-    unsigned first[2] = { 0 }, second[16] = { 0 }, third[4] = { 0 };
+    unsigned first[2] = { 0 }, second[16] = { 0 }, third[4] = { 0 }, none[16] = { 0 };
     PAPI_sprofil_t parts[] = {
         { .pr_base = third, .pr_size = sizeof third, .pr_off = (vptr_t)0x400030, .pr_scale = 131072 },
         { .pr_base = first, .pr_size = sizeof first, .pr_off = (vptr_t)0x400000, .pr_scale = 131072 },
         { .pr_base = second, .pr_size = sizeof second, .pr_off = (vptr_t)0x400010, .pr_scale = 65536 },
+        { .pr_base = none, .pr_size = sizeof none, .pr_off = (vptr_t)0x400010, .pr_scale = 65536 }, /* the one before has its hits, as in PAPI */
     };
     begin(NULL);
     WANT(PAPI_sprofil(parts, 3, set, event, 0, PAPI_PROFIL_BUCKET_32), PAPI_EINVAL);
-    WANT(PAPI_sprofil(parts, 3, set, event, 256, PAPI_PROFIL_BUCKET_32), PAPI_OK);
+    WANT(PAPI_sprofil(parts, 4, set, event, 256, PAPI_PROFIL_BUCKET_32), PAPI_OK);
     count(100);
     printf("first %u %u\nsecond", first[0], first[1]);
     for (int i = 0; i < 16; i++) printf(" %u", second[i]);
     printf("\nthird %u %u\n", third[0], third[1]);
+    for (int i = 0; i < 16; i++) WANT(none[i], 0);
+    WANT(PAPI_sprofil(NULL, 0, set, event, 0, PAPI_PROFIL_BUCKET_32), PAPI_OK);
+    WANT(PAPI_sprofil(parts, 1, set, event, 256, PAPI_PROFIL_BUCKET_32), PAPI_OK);
     WANT(PAPI_sprofil(NULL, 0, set, event, 0, PAPI_PROFIL_BUCKET_32), PAPI_OK);
     parts[1].pr_scale = 1;
     WANT(PAPI_sprofil(parts, 3, set, event, 256, PAPI_PROFIL_BUCKET_32), PAPI_EINVAL);

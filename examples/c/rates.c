@@ -1,4 +1,4 @@
-/* The first rate opens the library with support of threads; it may be asked for inside a region, and by threads that live already. */
+/* The first rate opens the library with support of threads; it may be asked for inside a region, and by threads that live already. A thread that ends leaves no set. */
 #define _GNU_SOURCE
 #include "papi.h"
 #include "wanted.h"
@@ -13,8 +13,16 @@ static void *ask(void *unused) {
     return unused;
 }
 
+static void *ask_and_end(void *unused) {
+    float real, own, rate;
+    long long events;
+    WANT(PAPI_ipc(&real, &own, &events, &rate), PAPI_OK);
+    return unused;
+}
+
 int main(void) {
     pthread_t thread;
+    int set = PAPI_NULL;
     ask(NULL);
     WANT(PAPI_is_initialized(), PAPI_LOW_LEVEL_INITED | PAPI_THREAD_LEVEL_INITED);
     WANT(PAPI_thread_id(), gettid());
@@ -24,6 +32,10 @@ int main(void) {
     WANT(pthread_create(&thread, NULL, ask, NULL), 0);
     WANT(pthread_join(thread, NULL), 0);
     ask(NULL);
+    WANT(pthread_create(&thread, NULL, ask_and_end, NULL), 0);
+    WANT(pthread_join(thread, NULL), 0);
+    WANT(PAPI_create_eventset(&set), PAPI_OK);
+    WANT(set, 0);
     PAPI_shutdown();
     puts("each rate is told");
     return 0;

@@ -45,6 +45,7 @@ int main(void) {
     WANT(PAPI_add_named_event(set, "BR_INST"), PAPI_EINVAL);
     WANT(PAPI_add_named_event(set, "BR_MISP"), PAPI_ECNFLCT);
     WANT(PAPI_remove_named_event(set, "CYCLES"), PAPI_EINVAL);
+    WANT(PAPI_remove_named_event(set, NULL), PAPI_EINVAL);
     WANT(PAPI_event_name_to_code("BR_INST", &event), PAPI_OK);
     WANT(PAPI_event_code_to_name(event, name), PAPI_OK);
     WANT(strcmp(name, "lab::BR_INST:ALL"), 0);

@@ -157,8 +157,35 @@ static int each_refused(void (*lives)(void)) {
     return refusals - first == k - 1 && refusals > first;
 }
 
+/* Without a library no call takes memory. */
+static void no_library(void) {
+    int set = PAPI_NULL;
+    long long count;
+    left = 0;
+    WANT(PAPI_get_real_cyc() + PAPI_get_virt_usec(), 0);
+    WANT(PAPI_create_eventset(&set), PAPI_ENOINIT);
+    WANT(PAPI_read(0, &count), PAPI_ENOINIT);
+    WANT(PAPI_num_components(), PAPI_ENOINIT);
+    WANT(PAPI_register_thread(), PAPI_ENOINIT);
+    WANT(left, 0);
+    left = -1;
+}
+
+/* A reading of a region that is refused memory is not made, and the next one is. */
+static void reads_a_region(void) {
+    setenv("PAPI_EVENTS", "INST_RETIRED", 1);
+    setenv("PAPI_OUTPUT_DIRECTORY", "/dev/null/none", 1);
+    WANT(PAPI_hl_region_begin("region"), PAPI_OK);
+    left = 0;
+    WANT(PAPI_hl_read("region"), PAPI_ENOMEM);
+    WANT(PAPI_hl_read("region"), PAPI_OK);
+    WANT(PAPI_hl_region_end("region"), PAPI_OK);
+}
+
 int main(void) {
+    no_library();
     int all = each_refused(life) && each_refused(steps);
+    reads_a_region();
     printf("each allocation refused once, and nothing is left: %s\n", all ? "yes" : "no");
     return !all;
 }

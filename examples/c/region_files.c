@@ -108,7 +108,11 @@ static void begins_later(void) {
     region("r");
 }
 
+static void leaves_a_region(void) { WANT(PAPI_hl_region_begin("r"), PAPI_OK); }
+
 static void paths(void) {
+    run(leaves_a_region);
+    WANT(is_there("papi_hl_output"), 0);
     run(goes_elsewhere);
     WANT(is_there("papi_hl_output/rank_000000.json"), 1);
     take_away("papi_hl_output");
@@ -203,8 +207,16 @@ static void is_of_now(const char *name) {
     WANT(utime(in(name), &later), 0);
 }
 
-/* The file of a rank is there: the next one has a name of the same rank. */
+/* The rank is that which the starter of an MPI program says. The file of a rank is there: the next one has a name of the same rank. */
 static void ranks(void) {
+    static const char *const starters[] = { "OMPI_COMM_WORLD_RANK", "ALPS_APP_PE", "PMI_RANK", "SLURM_PROCID" };
+    for (int i = 0; i < 4; i++) {
+        setenv(starters[i], "7", 1);
+        run(counts_a_region);
+        WANT(is_there("papi_hl_output/rank_000007.json"), 1);
+        take_away("papi_hl_output");
+        unsetenv(starters[i]);
+    }
     setenv("SLURM_PROCID", "3", 1);
     run(counts_a_region);
     is_of_now("papi_hl_output");

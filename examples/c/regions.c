@@ -31,6 +31,7 @@ static void rates(void) {
     WANT(PAPI_flops_rate(PAPI_TOT_INS, &real, &own, &events, &rate), PAPI_ENOEVNT);
     WANT(PAPI_flips_rate(PAPI_FP_INS, &real, &own, &events, &rate), PAPI_ENOEVNT);
     WANT(PAPI_epc(PAPI_BR_INS, &real, &own, &reference, &cycles, &events, &rate), PAPI_OK);
+    WANT(reference == 0 && cycles == 0 && events == 0, 1);
     WANT(kistalub_go(3, NULL), PAPI_OK);
     WANT(PAPI_epc(PAPI_BR_INS, &real, &own, &reference, &cycles, &events, &rate), PAPI_OK);
     printf("epc: %lld branches, %lld cycles, %lld of reference\n", events, cycles, reference);
@@ -42,7 +43,7 @@ int main(void) {
     WANT(mkdtemp(above) != NULL, 1);
     atexit(remove_output);
     setenv("PAPI_OUTPUT_DIRECTORY", above, 1);
-    setenv("PAPI_EVENTS", "PAPI_BR_PRC,PAPI_TOT_INS, lab::BR_INST:TAKEN =instant,PAPI_FP_OPS", 1);
+    setenv("PAPI_EVENTS", "PAPI_BR_PRC,PAPI_TOT_INS=delta, lab::BR_INST:TAKEN =instant,PAPI_FP_OPS", 1);
     setenv("PAPI_REPORT", "1", 1);
     setenv("SLURM_PROCID", "3", 1);
     rates();

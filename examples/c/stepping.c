@@ -1,6 +1,7 @@
-/* With KISTALUB_STEP a handler that reads does not go on: time stands in it. */
+/* With KISTALUB_STEP a handler that reads does not go on: time stands in it. A stream that has grown since has its new lines for the threads that come. */
 #include "papi.h"
 #include "wanted.h"
+#include <pthread.h>
 #include <unistd.h>
 
 #define LINES 200000
@@ -20,12 +21,33 @@ static void handler(int set, void *address, long long vector, void *context) {
     calls++;
 }
 
-/* A stream of occurrences that each retire 255 instructions. */
-static void write_stream(const char *path) {
-    FILE *f = fopen(path, "w");
+/* A stream of occurrences that each retire 255 instructions, or more of them behind those that are there. */
+static void write_stream(const char *path, const char *how, int lines) {
+    FILE *f = fopen(path, how);
     WANT(f != NULL, 1);
-    for (int i = 0; i < LINES; i++) fputs("0 c0 00 u 255 400000\n", f);
+    for (int i = 0; i < lines; i++) fputs("0 c0 00 u 255 400000\n", f);
     WANT(fclose(f), 0);
+}
+
+static void *go_twice(void *went) {
+    WANT(kistalub_go(2, went), PAPI_OK);
+    return NULL;
+}
+
+/* A thread has the stream as it is at the thread's first call. */
+static void grows(const char *path) {
+    pthread_t thread;
+    uint32_t went = 0;
+    write_stream(path, "w", 1);
+    unsetenv("KISTALUB_STEP");
+    WANT(PAPI_library_init(PAPI_VER_CURRENT), PAPI_VER_CURRENT);
+    go_twice(&went);
+    WANT(went, 1);
+    write_stream(path, "a", 1);
+    WANT(pthread_create(&thread, NULL, go_twice, &went), 0);
+    WANT(pthread_join(thread, NULL), 0);
+    WANT(went, 2);
+    PAPI_shutdown();
 }
 
 int main(void) {
@@ -33,7 +55,7 @@ int main(void) {
     int set = PAPI_NULL, event;
     long long count;
     WANT(close(mkstemp(path)), 0);
-    write_stream(path);
+    write_stream(path, "w", LINES);
     setenv("KISTALUB_STREAM", path, 1);
     setenv("KISTALUB_STEP", "200000", 1);
     WANT(PAPI_library_init(PAPI_VER_CURRENT), PAPI_VER_CURRENT);
@@ -45,6 +67,7 @@ int main(void) {
     WANT(PAPI_stop(set, &count), PAPI_OK);
     printf("%ld calls of the handler, %lld instructions\n", calls, count);
     PAPI_shutdown();
+    grows(path);
     unlink(path);
     return 0;
 }

@@ -27,13 +27,15 @@ static int started(void) {
     return set;
 }
 
-/* A tool stops its set in a destructor of its own, in the first round or in a later one. */
+/* A tool stops its set in a destructor of its own, in the first round or in a later one. In the first one it may do all else, too. */
 static void stop_at_end(void *kept) {
     static _Thread_local int rounds;
+    int event;
     if (rounds++ < rounds_before) {
         pthread_setspecific(early, kept);
         return;
     }
+    if (rounds_before == 0) WANT(PAPI_event_name_to_code("CYCLES", &event), PAPI_OK);
     WANT(PAPI_stop(*(int *)kept, &value), PAPI_OK);
     stopped++;
 }
@@ -70,9 +72,9 @@ static void *leave_set(void *set) {
     return NULL;
 }
 
-/* A set of a thread that has ended is read and stopped by its number, and no other set has the number before it is destroyed. */
+/* A set of a thread that has ended is read and stopped by its number, and no other set has the number before it is destroyed. Who did that can be cancelled as before. */
 static void by_number(void) {
-    int left = PAPI_NULL, own, events[2], number = 2, status;
+    int left = PAPI_NULL, own, events[2], number = 2, status, cancelled = -1;
     long long count = 1;
     run(leave_set, &left);
     own = started();
@@ -97,6 +99,8 @@ static void by_number(void) {
     WANT(PAPI_create_eventset(&left), PAPI_OK);
     WANT(left, status);
     WANT(PAPI_destroy_eventset(&left), PAPI_OK);
+    WANT(pthread_setcancelstate(PTHREAD_CANCEL_ENABLE, &cancelled), 0);
+    WANT(cancelled, PTHREAD_CANCEL_ENABLE);
     WANT(PAPI_cleanup_eventset(own), PAPI_OK);
     WANT(PAPI_destroy_eventset(&own), PAPI_OK);
 }
