@@ -22,9 +22,8 @@ find_program() {
 
 # Goes to a new folder, which is removed at the end.
 enter_folder() {
-    folder=$(mktemp -d)
-    trap 'rm -rf "$folder"' EXIT
-    trap 'exit 1' HUP INT TERM
+    # shellcheck source=examples/folder.sh
+    . "$here/../examples/folder.sh"
     cd "$folder" || exit 1
 }
 
