@@ -1,4 +1,5 @@
-"""The programs of examples/c as tests of a change in c/: which of them run which lines, as gcov says, and what they say of a changed library."""
+"""The programs of examples/c as tests of a change in c/: which of them run which lines, as gcov says, and what they say of a changed library. What runs under
+tools/count alone meets the tests of that tool."""
 
 from __future__ import annotations
 
@@ -7,6 +8,7 @@ import re
 import resource
 import shutil
 import subprocess
+import sys
 from dataclasses import dataclass, field
 from pathlib import Path
 from typing import Callable, Mapping
@@ -14,7 +16,8 @@ from typing import Callable, Mapping
 from seen_lines import Seen, end_of
 
 CHECK = "examples/c/check"
-OTHERS = ("forks", "fork_locks", "openmp", "cxx", "fortran", "scripts")  # that the check tries beside its programs
+OTHERS = ("forks", "fork_locks", "one_stream", "openmp", "cxx", "fortran", "counted", "scripts")  # that the check tries beside its programs
+COUNTED = ("tests.test_count", "tests.test_thresholds")  # of tools/count, in tools/
 DRAWN = 100  # scripts
 DRAWN_SANITIZED = 20
 Run = Callable[[list[str], Mapping[str, str]], "bool | None"]
@@ -31,6 +34,7 @@ class Programs:
     environment: dict[str, str] = field(default_factory=dict)
     seconds: float = 0.0  # of a processor, that all take
     with_sanitizers: bool = True
+    with_counted: bool = True
 
     @classmethod
     def made(cls, top: Path, kept: Path, run: Run) -> Programs | None:
@@ -47,6 +51,9 @@ class Programs:
         if not programs.passes(run, programs.names, "--sanitize"):
             print("left out: c: the sanitizers, with which not all programs pass here", flush=True)
             programs.with_sanitizers = False
+        if not programs.counted_pass(run):
+            print("left out: c: the tests of tools/count, which do not pass here", flush=True)
+            programs.with_counted = False
         with_gcov = kept / "seen"
         (with_gcov / "notes").mkdir(parents=True)
         flags = f"-O0 --coverage -fprofile-update=atomic -dumpdir {with_gcov}/notes/"
@@ -78,13 +85,19 @@ class Programs:
         drawn = DRAWN_SANITIZED if words else DRAWN
         return run([CHECK, *words], {**self.environment, "ONLY": " ".join(names), "DRAWN": str(drawn)})
 
+    def counted_pass(self, run: Run) -> bool | None:
+        return run([sys.executable, "-B", "-m", "unittest", "-q", "-f", *COUNTED], {**self.environment, "PYTHONPATH": "tools"})
+
     def see(self, run: Run, file: str, line: int) -> tuple[bool, bool]:
-        """Whether they see nothing of a change in this line, as they are and with the compiler's sanitizers, and whether they ran past their time."""
+        """Whether they see nothing of a change in this line, as they are and with the compiler's sanitizers, and whether they ran past their time. What none of them runs, and
+        the files that talk with the tool of Valgrind, meet the tests of tools/count."""
         names = self.near(file, line)
-        if not names:
-            return True, False
-        passes = self.passes(run, names)
-        if passes and self.with_sanitizers:
+        passes: bool | None = True
+        if self.with_counted and (not names or file.startswith("c/live")):
+            passes = self.counted_pass(run)
+        if passes and names:
+            passes = self.passes(run, names)
+        if passes and names and self.with_sanitizers:
             passes = self.passes(run, names, "--sanitize")
         return bool(passes), passes is None
 

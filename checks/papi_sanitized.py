@@ -19,9 +19,6 @@ SETTINGS = {"KISTALUB_CLOCK": "real", "KISTALUB_MHZ": "50", "OMP_NUM_THREADS": "
 REPORT = re.compile(r"ERROR: \w+Sanitizer|WARNING: ThreadSanitizer|runtime error:|ERROR: LeakSanitizer")
 FRAME = re.compile(rf"{re.escape(str(SOURCES))}/\w+\.[ch]:\d+")
 
-# These hand over what no library may read: a name of 4,096 letters without an end.
-ON_PURPOSE = {("address", "failed_events")}
-
 
 @dataclass(frozen=True)
 class Sanitizer:
@@ -69,7 +66,7 @@ def try_sanitized(source: Path, folder: Path, compiler: str, files: Files, round
             cases.append((f"{sanitizer.name}: the library", why))
             continue
         for name in tests.names():
-            if name not in expectations() and (sanitizer.name, name) not in ON_PURPOSE and (not only or name in only):
+            if name not in expectations() and (not only or name in only):
                 cases.append((f"{sanitizer.name}: {name}", try_one(tests, name, sanitizer, files, round_of)))
     return cases
 

@@ -22,22 +22,24 @@ PATIENCE = 30
 LOOKS = 20  # at whether processes have work
 Word = Union[str, bytes]
 
+# tools/make_tools: begin
 # The tools, each with an example that reads all kinds of files that the tool reads.
 EXAMPLE_OF = {
     "papi_run": "presets",
-    "papi_encode": "encode_names",
-    "papi_decode": "decode_available",
+    "papi_profil": "profil",
+    "papi_regions": "regions_presets",
     "papi_avail": "avail_all",
     "papi_native_avail": "native_avail_all",
     "papi_event_chooser": "event_chooser_presets",
+    "papi_decode": "decode_available",
+    "papi_encode": "encode_names",
     "papi_soak": "soak",
-    "papi_profil": "profil",
-    "papi_regions": "regions_presets",
 }
 TOOLS = tuple(EXAMPLE_OF)
 
 # Those that run a script over streams.
 RUNNING = ("papi_run", "papi_profil", "papi_regions")
+# tools/make_tools: end
 
 LIMITS = (ROOT / "crates/papi_base/src/limits.rt").read_text(encoding="utf-8")
 MOST_SETS = int(re.findall(r"MOST_SETS: usize = ([0-9_]+);", LIMITS)[0])
