@@ -38,6 +38,10 @@ class Picture(unittest.TestCase):
         self.assertEqual(sorted(names), sorted(CITED))
         self.assertEqual(len([element for element in root.iter(f"{SVG}path")]), 3)
 
+    def test_no_crates_have_the_height_of_one(self) -> None:
+        heights = [ElementTree.fromstring(draw_crates(listed)).get("height") for listed in ({}, {"base": []})]
+        self.assertEqual(heights[0], heights[1])
+
     def test_hostile_names_show_as_text(self) -> None:
         names = ["</text><script>", "a&b", "plain"]
         root = ElementTree.fromstring(draw_crates({name: [] for name in names}))

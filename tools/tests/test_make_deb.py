@@ -2,12 +2,14 @@
 
 from __future__ import annotations
 
+import os
 import re
+import signal
 import subprocess
 from pathlib import Path
 
 from parts.package_links import leads_somewhere
-from tests.support import ROOT, InFolder, needs_command, needs_library, needs_program, run_tool, some
+from tests.support import ROOT, TOOLS, InFolder, needs_command, needs_library, needs_program, run_tool, some
 
 VERSION = (ROOT / "VERSION").read_text(encoding="ascii").strip()
 
@@ -20,6 +22,22 @@ class Words(InFolder):
             self.assertEqual((ran.returncode, ran.stdout, ran.stderr), (2, "", "usage: make_deb [FOLDER]\n"), words)
 
 
+@needs_command("strip", "binutils")
+@needs_command("dpkg-shlibdeps", "dpkg-dev")
+class Signals(InFolder):
+    def test_a_signal_to_all_leaves_nothing(self) -> None:
+        (self.folder / "tmp").mkdir()
+        (self.folder / "path").mkdir()
+        flags = self.folder / "path/dpkg-buildflags"
+        flags.write_text('#!/bin/sh\nkill -s "$SENT" 0\n')
+        flags.chmod(0o755)
+        for number in (signal.SIGHUP, signal.SIGINT, signal.SIGTERM):
+            environment = {**os.environ, "TMPDIR": str(self.folder / "tmp"), "SENT": number.name.removeprefix("SIG"), "PATH": f"{flags.parent}:{os.environ['PATH']}"}
+            done = subprocess.run([str(TOOLS / "make_deb"), str(self.folder)], env=environment, start_new_session=True, capture_output=True,
+                                  preexec_fn=lambda: [signal.signal(each, signal.SIG_DFL) for each in (signal.SIGHUP, signal.SIGINT, signal.SIGTERM)])
+            self.assertEqual((done.returncode, os.listdir(self.folder / "tmp")), (128 + number, []), number)
+
+
 @needs_program
 @needs_library
 @needs_command("cc", "a C compiler")
@@ -30,13 +48,17 @@ class Package(InFolder):
         return subprocess.run(["dpkg-deb", *words], check=True, capture_output=True, text=True).stdout
 
     def test_contents(self) -> None:
-        made = run_tool("make_deb", str(self.folder))
+        place = self.folder / "a place"
+        place.symlink_to(ROOT)
+        made = subprocess.run([str(place / "tools/make_deb"), str(self.folder)], capture_output=True, text=True)
         self.assertEqual((made.returncode, made.stderr), (0, ""))
         package = made.stdout.strip()
         architecture = self.ask("--field", package, "Architecture").strip()
         self.assertEqual(package, f"{self.folder}/kistalub_{VERSION}_{architecture}.deb")
         self.assertEqual(self.ask("--field", package, "Version"), f"{VERSION}\n")
         self.assertIn("libc6", self.ask("--field", package, "Depends"))
+        modes = {line[:10] for line in self.ask("--contents", package).splitlines()}
+        self.assertEqual(modes, {"drwxr-xr-x", "-rwxr-xr-x", "-rw-r--r--", "lrwxrwxrwx"})
         unpacked = self.folder / "unpacked"
         self.ask("--extract", package, str(unpacked))
         tools = {path.name for path in (unpacked / "usr/bin").iterdir()}

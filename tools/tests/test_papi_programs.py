@@ -12,10 +12,11 @@ from tests.support import ROOT, all_of
 
 sys.path.append(str(ROOT / "checks"))
 
+import papi_sanitized
 import papi_stream
 from papi_counted import why_of
 from papi_ctests import FAIL, PASS, SKIP, UNBUILT, expectations, verdict_of
-from papi_library import Ran, run
+from papi_library import Files, Ran, run
 
 LINE = re.compile(r"\d+ [0-9a-f]{2} [0-9a-f]{2} [uk] \d+ [0-9a-f]{1,16}\n")
 
@@ -41,6 +42,29 @@ class Verdicts(unittest.TestCase):
         for name, (verdict, why) in expectations().items():
             self.assertIn(verdict, (SKIP, FAIL, UNBUILT), name)
             self.assertTrue(why, name)
+
+
+class Document(unittest.TestCase):
+    """docs/C_PROGRAMS.md says with which settings PAPI's tests run, and how many of them pass."""
+
+    text = (ROOT / "docs/C_PROGRAMS.md").read_text(encoding="utf-8")
+
+    def number(self, pattern: str) -> int:
+        found = re.search(pattern, self.text)
+        assert found, pattern
+        return int(found[1])
+
+    def test_the_settings(self) -> None:
+        settings = {**papi_sanitized.SETTINGS, **Files(ROOT / "examples/lab.unit").environment()}
+        del settings["KISTALUB_UNIT"]
+        for name, value in settings.items():
+            self.assertTrue(f"`{name}={value}`" in self.text, name)
+        self.assertEqual(papi_sanitized.ROUNDS, 10)
+        self.assertTrue("`KISTALUB_STEP` of ten rounds" in self.text)
+
+    def test_the_numbers(self) -> None:
+        others = [name for name, (verdict, _) in expectations().items() if verdict != UNBUILT and not name.endswith(".F")]
+        self.assertEqual(self.number(r"C tests (\d+) can be built") - len(others), self.number(r": (\d+) pass\."))
 
 
 class Programs(unittest.TestCase):

@@ -46,6 +46,12 @@ class Words(unittest.TestCase):
         for name, machine in MACHINES.items():
             self.assertEqual(set(machine.shapes), {"l1d", "l1i", "l2", "l3", "dtlb", "itlb"}, name)
 
+    def test_the_machine_is_told_to_the_tool_and_to_the_library(self) -> None:
+        machine = MACHINES["skl"].with_shapes({"l2": None})
+        shapes = ["--l1d=512,8,64", "--l1i=512,8,64", "--l2=none", "--l3=131072,16,64", "--dtlb=64,4,4096", "--itlb=128,8,4096"]
+        self.assertEqual(machine.tool_words(), ["--model=yes", "--predictor=14", "--costs=8,38,200,20,16", *shapes])
+        self.assertEqual(machine.caches(), "l1d=32768,8,64 l1i=32768,8,64 l3=8388608,16,64 dtlb=64,4,4096 itlb=128,8,4096")
+
     def test_bad_words(self) -> None:
         for words in ((), ("--nothing", "true"), ("--l1d",), ("--l1d", "1,2", "true"), ("--machine", "x", "true"), ("--window", "0", "true")):
             self.assertEqual(run_tool("record", *words).returncode, 2, words)

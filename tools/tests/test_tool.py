@@ -188,6 +188,10 @@ class Building(InFolder):
         self.assertEqual([(process.communicate()[1].startswith(b"record: "), process.returncode) for process in both], [(True, 0)] * 2)
         self.assertEqual(len(list((self.folder / "kistalub").iterdir())), 1)
 
+    def test_a_folder_for_caches_that_cannot_be_made(self) -> None:
+        done = subprocess.run([str(TOOLS / "record"), "-o", "/dev/null", "/bin/true"], capture_output=True, text=True, env={**os.environ, "XDG_CACHE_HOME": "/dev/null"})
+        self.assertEqual((done.returncode, done.stderr), (1, "record: /dev/null/kistalub: Not a directory (XDG_CACHE_HOME names another folder)\n"))
+
     def test_headers_that_are_not_there(self) -> None:
         text = (valgrind.SOURCES / "build").read_text(encoding="utf-8")
         for name, cause in (("INCLUDES", "valgrind's headers"), ("LIBRARIES", "valgrind's static libraries")):
