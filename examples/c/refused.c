@@ -180,6 +180,7 @@ static void reads_a_region(void) {
     WANT(PAPI_hl_read("region"), PAPI_ENOMEM);
     WANT(PAPI_hl_read("region"), PAPI_OK);
     WANT(PAPI_hl_region_end("region"), PAPI_OK);
+    PAPI_shutdown();
 }
 
 int main(void) {

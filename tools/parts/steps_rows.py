@@ -35,7 +35,7 @@ def rows_of_steps(tools: list[Tool]) -> list[str]:
     return [f"        Command::{tool.variant}(words) => {calls[tool.kind].format(function=tool.function)}," for tool in tools]
 
 
-QUIET = """
+SIGNATURE = """
 /// `{name}` over the words after its name, as `papi_main` does it.
 pub fn {public}<R: Threads + Sync, F: Files, K: Sink>(
     rt: &R,
@@ -43,7 +43,8 @@ pub fn {public}<R: Threads + Sync, F: Files, K: Sink>(
     words: &[String],
     files: &mut F,
     out: &mut K,
-    err: &mut K,
+    err: &mut K,"""
+QUIET = SIGNATURE + """
 ) -> Status
     ensures {{ CarriesOutBy F.held F.misses F.faults F.lent K.taken K.faults result
         (codes "{name}") words.now files.old files.new out.old out.new err.old{gap}err.new }}
@@ -51,15 +52,7 @@ pub fn {public}<R: Threads + Sync, F: Files, K: Sink>(
     quiet_tool(rt, alloc, "{name}", words, files, out, err)
 }}
 """
-TELLING = """
-/// `{name}` over the words after its name, as `papi_main` does it.
-pub fn {public}<R: Threads + Sync, F: Files, K: Sink>(
-    rt: &R,
-    alloc: Global,
-    words: &[String],
-    files: &mut F,
-    out: &mut K,
-    err: &mut K,
+TELLING = SIGNATURE + """
     handlers: &mut Vec<Box<dyn Handler + Send>>,
 ) -> Status
     requires handlers {{ vec_len handlers.old ≡ THREADS }}

@@ -13,7 +13,7 @@ import unittest
 from contextlib import contextmanager
 from functools import lru_cache
 from pathlib import Path
-from typing import Any, Callable, Iterable, Iterator, TypeVar
+from typing import Any, Callable, Iterable, Iterator, Mapping, TypeVar
 
 TOOLS = Path(__file__).resolve().parent.parent
 ROOT = TOOLS.parent
@@ -46,6 +46,17 @@ def copied(*names: str) -> Iterator[Path]:
             path.parent.mkdir(parents=True, exist_ok=True)
             shutil.copy(ROOT / name, path)
         yield Path(folder)
+
+
+def before_and_after(line: str, table: str, made: Iterable[str], made_texts: Callable[[Path], dict[str, str]], more: Mapping[str, str] = {}) -> tuple[dict[str, str], dict[str, str]]:
+    """What the files are made to be by the table, and by the table with one more line, in a folder that has more files."""
+    with copied(table, *made) as root:
+        for name, text in more.items():
+            (root / name).write_text(text, encoding="utf-8")
+        before = made_texts(root)
+        with (root / table).open("a", encoding="utf-8") as lines:
+            lines.write(line)
+        return before, made_texts(root)
 
 
 def some(items: Iterable[Item]) -> list[Item]:

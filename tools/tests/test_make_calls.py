@@ -6,7 +6,7 @@ import unittest
 
 from parts.call_table import ABOVE_CALLS, MADE, TABLE, Call, event_arms, eventless_lines, form_clauses, made_texts, read_calls, rule_lines, with_usage
 from parts.command import Fault
-from tests.support import ROOT, copied, run_tool, some
+from tests.support import ROOT, before_and_after, run_tool, some
 
 HEAD = "word,arguments,variant,gives,papi,usage,replies,refusals\n"
 LINE = "start,SET,Start,code,PAPI_start,begins to count,,ENOEVST\n"
@@ -19,12 +19,7 @@ def call_of(line: str) -> Call:
 
 
 def made_after(line: str) -> tuple[dict[str, str], dict[str, str]]:
-    """What the files are made to be by the table, and by the table with one more line."""
-    with copied(TABLE, *MADE) as root:
-        before = made_texts(root)
-        with (root / TABLE).open("a", encoding="utf-8") as table:
-            table.write(line)
-        return before, made_texts(root)
+    return before_and_after(line, TABLE, MADE, made_texts)
 
 
 class MakeCalls(unittest.TestCase):

@@ -7,7 +7,7 @@ import unittest
 
 from parts.command import Fault
 from parts.preset_table import MADE, REGIONS, TABLE, made_texts, read_presets, with_listing, with_number
-from tests.support import ROOT, copied, run_tool, some
+from tests.support import ROOT, before_and_after, run_tool, some
 
 LINE = "PAPI_TOT_INS,0x80000032,Instructions completed\n"
 THREE = read_presets("PAPI_L1_DCM,0x80000000,Misses\n" + LINE + "PAPI_REF_CYC,0x8000006b,Clock cycles\n")
@@ -15,12 +15,7 @@ TOTAL = re.compile(r"Of (\d+) possible events")
 
 
 def made_after(line: str) -> tuple[dict[str, str], dict[str, str]]:
-    """What the files are made to be by the table, and by the table with one more line."""
-    with copied(TABLE, *MADE) as root:
-        before = made_texts(root)
-        with (root / TABLE).open("a", encoding="utf-8") as table:
-            table.write(line)
-        return before, made_texts(root)
+    return before_and_after(line, TABLE, MADE, made_texts)
 
 
 def in_rows(*lines: str) -> str:

@@ -11,7 +11,7 @@ from parts.command import Fault
 from parts.steps_rows import MOST_NAME, WIDTH, public_functions
 from parts.tool_lists import LISTS, NAMES, REGIONS, example_texts, laid_out, made_texts, with_list, with_names
 from parts.tool_table import COLUMNS, TABLE, camel, read_tools
-from tests.support import ROOT, run_tool, some
+from tests.support import ROOT, before_and_after, run_tool, some
 
 HEAD = ",".join(COLUMNS) + "\n"
 LINE = "papi_some,some,listing::some_list,text,event,some,some,some_all,\"lists some, or one\",some of them,Some.\n"
@@ -25,18 +25,8 @@ KINDS = {
 
 
 def made_after(line: str) -> tuple[dict[str, str], dict[str, str]]:
-    """What the files are made to be by the table, and by the table with one more row, whose tool has a usage."""
-    with tempfile.TemporaryDirectory() as folder:
-        root = Path(folder)
-        for name in (TABLE, *made_texts(), *(str(path.relative_to(ROOT)) for path in ROOT.glob("bin/usage/papi_*"))):
-            path = root / name
-            path.parent.mkdir(parents=True, exist_ok=True)
-            path.write_text((ROOT / name).read_text(encoding="utf-8"), encoding="utf-8")
-        (root / "bin/usage/papi_some").write_text(USAGE)
-        before = made_texts(root)
-        with (root / TABLE).open("a", encoding="utf-8") as table:
-            table.write(line)
-        return before, made_texts(root)
+    usages = [str(path.relative_to(ROOT)) for path in ROOT.glob("bin/usage/papi_*")]
+    return before_and_after(line, TABLE, (*made_texts(), *usages), made_texts, {"bin/usage/papi_some": USAGE})
 
 
 class MakeTools(unittest.TestCase):
