@@ -5,14 +5,15 @@ from __future__ import annotations
 import os
 import re
 import subprocess
+from concurrent.futures import ThreadPoolExecutor
 from dataclasses import dataclass
 from pathlib import Path
 
 from papi_ctests import Tests, expectations
-from papi_library import ROOT, Files, run
+from papi_library import ROOT, Files, Ran, run
 
 SOURCES = ROOT / "c"
-SECONDS = 300
+SECONDS = 900
 # The stored stream happens in steps, and the clock goes on while a test sleeps. What a test makes of its counts is not judged here.
 ROUNDS = 10
 SETTINGS = {"KISTALUB_CLOCK": "real", "KISTALUB_MHZ": "50", "OMP_NUM_THREADS": "2", "OMP_WAIT_POLICY": "passive"}
@@ -65,9 +66,13 @@ def try_sanitized(source: Path, folder: Path, compiler: str, files: Files, round
         if why:
             cases.append((f"{sanitizer.name}: the library", why))
             continue
-        for name in tests.names():
-            if name not in expectations() and (not only or name in only):
-                cases.append((f"{sanitizer.name}: {name}", try_one(tests, name, sanitizer, files, round_of)))
+        names = [name for name in tests.names() if name not in expectations() and (not only or name in only)]
+
+        def one(name: str, tests: Tests = tests, sanitizer: Sanitizer = sanitizer) -> tuple[str, str]:
+            return f"{sanitizer.name}: {name}", try_one(tests, name, sanitizer, files, round_of)
+
+        with ThreadPoolExecutor(os.cpu_count()) as workers:
+            cases += workers.map(one, names)
     return cases
 
 
@@ -77,4 +82,9 @@ def try_one(tests: Tests, name: str, sanitizer: Sanitizer, files: Files, round_o
         return f"not built: {why[:160]}"
     step = {"KISTALUB_STEP": str(ROUNDS * round_of)}
     ran = run([tests.folder / name], {**SETTINGS, **files.environment(), **step, **sanitizer.options}, SECONDS, tests.folder)
-    return report_of(ran.out + ran.err)
+    return report_of(ran.out + ran.err) or ended_in_time(ran)
+
+
+def ended_in_time(ran: Ran) -> str:
+    """Why nothing is known of a test that has no report, or nothing."""
+    return f"no report, and {ran.how} ({SECONDS} s)" if ran.status is None else ""

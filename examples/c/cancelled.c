@@ -8,7 +8,6 @@
 #include <time.h>
 #include <unistd.h>
 
-#define SECONDS 20
 
 static const struct timespec moment = { 0, 50000000 };
 static pthread_barrier_t barrier;
@@ -140,7 +139,7 @@ int main(void) {
     WANT(mkdtemp(folder) != NULL, 1);
     snprintf(pipe_path, sizeof pipe_path, "%s/pipe", folder);
     WANT(mkfifo(pipe_path, 0600), 0);
-    alarm(SECONDS);
+    alarm(PATIENCE);
     in_a_lock();
     in_a_read(unit);
     in_a_line();

@@ -8,7 +8,6 @@
 #include <unistd.h>
 #define THREADS 3
 #define ENDS 20
-#define SECONDS 20
 static atomic_int begun;
 static void *work(void *unused) {
     for (;;) {
@@ -25,7 +24,7 @@ static void *work(void *unused) {
 }
 static void end(void) {
     pthread_t thread;
-    alarm(SECONDS);
+    alarm(PATIENCE);
     for (int i = 0; i < THREADS; i++) WANT(pthread_create(&thread, NULL, work, NULL), 0);
     while (atomic_load(&begun) < 4 * THREADS) usleep(100);
     exit(0);

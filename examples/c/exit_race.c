@@ -8,7 +8,6 @@
 
 #define THREADS 4
 #define ENDS 20
-#define SECONDS 20
 
 static atomic_int begun;
 
@@ -20,7 +19,7 @@ static void *work(void *unused) {
 
 static void end(void) {
     pthread_t thread;
-    alarm(SECONDS);
+    alarm(PATIENCE);
     WANT(PAPI_hl_region_begin("first"), PAPI_OK);
     WANT(PAPI_hl_region_end("first"), PAPI_OK);
     for (int i = 0; i < THREADS; i++) WANT(pthread_create(&thread, NULL, work, NULL), 0);

@@ -11,7 +11,6 @@
 
 #define THREADS 100
 #define MICROSECONDS 50
-#define MOST_SECONDS 60
 
 static time_t begun;
 static volatile sig_atomic_t handled;
@@ -24,7 +23,7 @@ static void set_timer(int microseconds) {
 
 static void ask(int number) {
     (void)number;
-    if (time(NULL) - begun > MOST_SECONDS) _exit(3); /* a call waits for ever */
+    if (time(NULL) - begun > PATIENCE) _exit(3); /* a call waits for ever */
     if (is_beginning) {
         handled++;
         PAPI_get_real_cyc();

@@ -7,7 +7,6 @@
 #include <time.h>
 #include <unistd.h>
 
-#define SECONDS 20
 #define ROUNDS 20
 
 static pthread_barrier_t barrier;
@@ -29,7 +28,7 @@ static void hold_and_let_go(pthread_t *thread) {
 
 static void child(void) {
     pthread_t thread;
-    alarm(SECONDS);
+    alarm(PATIENCE);
     for (int i = 0; i < ROUNDS; i++) {
         hold_and_let_go(&thread);
         WANT(PAPI_unlock(PAPI_USR1_LOCK), PAPI_OK);

@@ -8,7 +8,6 @@
 
 #define THREADS 4
 #define FORKS 100
-#define SECONDS 20
 
 static atomic_int is_over;
 
@@ -33,7 +32,7 @@ static void *work(void *unused) {
 static void child(void) {
     int set = PAPI_NULL;
     long long count;
-    alarm(SECONDS);
+    alarm(PATIENCE);
     WANT(PAPI_library_init(PAPI_VER_CURRENT), PAPI_VER_CURRENT);
     WANT(PAPI_create_eventset(&set), PAPI_OK);
     WANT(set, 0);

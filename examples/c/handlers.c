@@ -4,7 +4,6 @@
 #include <pthread.h>
 #include <unistd.h>
 
-#define SECONDS 10
 
 static _Thread_local int told;
 static int asks_elsewhere;
@@ -80,7 +79,7 @@ static void run(void *(*work)(void *)) {
 }
 
 int main(void) {
-    alarm(SECONDS);
+    alarm(PATIENCE);
     setenv("PAPI_EVENTS", "INST_RETIRED", 1);
     setenv("PAPI_OUTPUT_DIRECTORY", "/dev/null", 1); /* nothing is written */
     WANT(freopen("/dev/null", "w", stderr) != NULL, 1);

@@ -6,7 +6,6 @@
 #include <pthread.h>
 #include <unistd.h>
 
-#define SECONDS 10
 #define INSTRUCTIONS 255
 
 static pthread_key_t key;
@@ -54,7 +53,7 @@ static void *work(void *unused) {
 
 int main(void) {
     pthread_t thread;
-    alarm(SECONDS);
+    alarm(PATIENCE);
     setenv("KISTALUB_STEP", "1", 1);
     WANT(PAPI_library_init(PAPI_VER_CURRENT), PAPI_VER_CURRENT);
     WANT(pthread_key_create(&key, end), 0);

@@ -15,7 +15,6 @@
 #define CHILDREN 8
 #define FEW 4
 #define MICROSECONDS 200
-#define MOST_SECONDS 60
 
 static sigjmp_buf before;
 static volatile sig_atomic_t is_armed;
@@ -24,7 +23,7 @@ static int set = PAPI_NULL, told;
 
 static void jump(int number) {
     (void)number;
-    if (time(NULL) - begun > MOST_SECONDS) _exit(3); /* a call waits for ever */
+    if (time(NULL) - begun > PATIENCE) _exit(3); /* a call waits for ever */
     if (!is_armed) return;
     is_armed = 0;
     siglongjmp(before, 1);

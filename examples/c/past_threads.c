@@ -18,7 +18,6 @@
 #define THREADS 3
 #define READS 200
 #define INSTRUCTIONS 255
-#define SECONDS 120
 
 static pthread_key_t key;
 static atomic_int in_destructors, is_over, left[THREADS];
@@ -81,7 +80,7 @@ static void live(void) {
 
 int main(void) {
     pthread_t reader;
-    alarm(SECONDS);
+    alarm(PATIENCE);
     WANT(PAPI_library_init(PAPI_VER_CURRENT), PAPI_VER_CURRENT);
     WANT(pthread_key_create(&key, end), 0);
     PAPI_shutdown();

@@ -67,6 +67,19 @@ class Document(unittest.TestCase):
         self.assertEqual(self.number(r"C tests (\d+) can be built") - len(others), self.number(r": (\d+) pass\."))
 
 
+class Sanitized(unittest.TestCase):
+    """What is judged of a test that the compiler's sanitizers look at."""
+
+    def test_a_report_of_the_library_alone(self) -> None:
+        for kind in ("ERROR: AddressSanitizer", "WARNING: ThreadSanitizer"):
+            for place, report in ((f"{ROOT}/c/read.c:12", f"{kind} at read.c:12"), ("/other/test.c:12", "")):
+                self.assertEqual(papi_sanitized.report_of(f"said\n{kind}: race\n  #0 name {place}\n"), report)
+
+    def test_one_that_does_not_end_has_not_passed(self) -> None:
+        self.assertEqual([papi_sanitized.ended_in_time(Ran(status, "", "")) for status in (0, 1, -9)], ["", "", ""])
+        self.assertIn("no end in time", papi_sanitized.ended_in_time(Ran(None, "", "")))
+
+
 class Programs(unittest.TestCase):
     def test_what_a_program_leaves_behind_is_ended(self) -> None:
         with tempfile.TemporaryDirectory() as folder:
