@@ -9,16 +9,27 @@
 #define PART 64
 #define MASKS 16
 #define LETTERS 4096
+#define WHOLE 13 /* umasks of the most letters that a name has room for */
+#define MOST 1023 /* letters of a name that is called again */
 
 static char unit[] = "/tmp/kistalub_names_XXXXXX";
 
-/* A name of the most letters, of which the last ones are its number. */
-static const char *part(char letter, int number) {
+/* A name of so many letters, of which the last ones are its number. */
+static const char *part_of(int length, char letter, int number) {
     static char text[PART + 1];
     memset(text, letter, PART);
-    text[PART - 2] = (char)('0' + number / 10);
-    text[PART - 1] = (char)('0' + number % 10);
+    text[length - 2] = (char)('0' + number / 10);
+    text[length - 1] = (char)('0' + number % 10);
+    text[length] = 0;
     return text;
+}
+
+static const char *part(char letter, int number) { return part_of(PART, letter, number); }
+
+/* The umask after those of the most letters fills a name up, and the next one has a letter more. */
+static const char *umask(int number) {
+    const int left = MOST - (PART + 2 + PART + WHOLE * (1 + PART)) - 1;
+    return number == WHOLE ? part_of(left, 'M', number) : number == WHOLE + 1 ? part_of(left + 1, 'M', number) : part('M', number);
 }
 
 static void write_unit(void) {
@@ -26,16 +37,32 @@ static void write_unit(void) {
     WANT(f != NULL, 1);
     fprintf(f, "COMPONENT,cpu,%s\nCOUNTER,P0,48,P\n", part('p', 0));
     fprintf(f, "EVENT,%s,c0,P0,An event\n", part('E', 0));
-    for (int i = 0; i < MASKS; i++) fprintf(f, "UMASK,%s,%02x,-,A part\n", part('M', i), i + 1);
+    for (int i = 0; i < MASKS; i++) fprintf(f, "UMASK,%s,%02x,-,A part\n", umask(i), i + 1);
     WANT(fclose(f), 0);
 }
 
-/* All umasks and modifiers: a name without an end begins with it, and is none. */
-static void write_longest(char *to) {
+/* The event with the first umasks. */
+static char *write_name(char *to, int masks) {
     to += sprintf(to, "%s::", part('p', 0));
     to += sprintf(to, "%s", part('E', 0));
-    for (int i = 0; i < MASKS; i++) to += sprintf(to, ":%s", part('M', i));
-    strcpy(to, ":u=1:k=1:e=1:i=1:c=255");
+    for (int i = 0; i < masks; i++) to += sprintf(to, ":%s", umask(i));
+    return to;
+}
+
+/* All umasks and modifiers: a name without an end begins with it, and is none. */
+static void write_longest(char *to) { strcpy(write_name(to, MASKS), ":u=1:k=1:e=1:i=1:c=255"); }
+
+/* A name that just has room is called again, and one with a letter more is not. */
+static void is_called_again(void) {
+    char name[2048];
+    int event;
+    char *end = write_name(name, WHOLE);
+    sprintf(end, ":%s", umask(WHOLE));
+    WANT(strlen(name), MOST);
+    WANT(PAPI_event_name_to_code(name, &event), PAPI_OK);
+    sprintf(end, ":%s", umask(WHOLE + 1));
+    WANT(strlen(name), MOST + 1);
+    WANT(PAPI_event_name_to_code(name, &event), PAPI_EBUF);
 }
 
 /* So many letters up to a page that can't be read, and no end. */
@@ -75,6 +102,7 @@ int main(void) {
     is_none(set, endless, PAPI_EATTR);
     WANT(PAPI_get_component_index(endless), PAPI_ENOCMP);
     WANT(PAPI_event_name_to_code(longest, &event), PAPI_EBUF); /* what it would be called again has no room */
+    is_called_again();
     WANT(PAPI_add_named_event(set, longest), PAPI_OK);
     WANT(PAPI_num_events(set), 1);
     WANT(PAPI_remove_named_event(set, longest), PAPI_OK);

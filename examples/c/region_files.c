@@ -207,7 +207,20 @@ static void is_of_now(const char *name) {
     WANT(utime(in(name), &later), 0);
 }
 
-/* The rank is that which the starter of an MPI program says. The file of a rank is there: the next one has a name of the same rank. */
+/* The file of a rank is there: the next one has a name of the same rank. */
+static void has_two(const char *rank, const char *first, const char *second, const char *other) {
+    setenv("SLURM_PROCID", rank, 1);
+    run(counts_a_region);
+    is_of_now("papi_hl_output");
+    run(counts_a_region);
+    WANT(is_there(first), 1);
+    WANT(is_there(second), 1);
+    WANT(is_there(other), 0);
+    take_away("papi_hl_output");
+    unsetenv("SLURM_PROCID");
+}
+
+/* The rank is that which the starter of an MPI program says. */
 static void ranks(void) {
     static const char *const starters[] = { "OMPI_COMM_WORLD_RANK", "ALPS_APP_PE", "PMI_RANK", "SLURM_PROCID" };
     for (int i = 0; i < 4; i++) {
@@ -217,15 +230,8 @@ static void ranks(void) {
         take_away("papi_hl_output");
         unsetenv(starters[i]);
     }
-    setenv("SLURM_PROCID", "3", 1);
-    run(counts_a_region);
-    is_of_now("papi_hl_output");
-    run(counts_a_region);
-    WANT(is_there("papi_hl_output/rank_000003.json"), 1);
-    WANT(is_there("papi_hl_output/rank_000004.json"), 0);
-    WANT(is_there("papi_hl_output/rank_000003-2.json"), 1);
-    take_away("papi_hl_output");
-    unsetenv("SLURM_PROCID");
+    has_two("3", "papi_hl_output/rank_000003.json", "papi_hl_output/rank_000003-2.json", "papi_hl_output/rank_000004.json");
+    has_two("0", "papi_hl_output/rank_000000.json", "papi_hl_output/rank_000000-2.json", "papi_hl_output/rank_000001.json");
 }
 
 int main(void) {
