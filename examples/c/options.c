@@ -6,6 +6,15 @@
 
 static PAPI_option_t o;
 
+void papif_get_domain_(const int *set, int *domain, const int *mode, int *check); /* for Fortran */
+
+static void has_domain(int set, int mode, int code, int wanted) {
+    int domain = -1, check = 1;
+    papif_get_domain_(&set, &domain, &mode, &check);
+    WANT(check, code);
+    WANT(domain, wanted);
+}
+
 /* A set that this thread makes has the domain that another one asked for. */
 static void *makes_a_set(void *unused) {
     int set = PAPI_NULL;
@@ -29,6 +38,9 @@ static void domains(int set) {
     WANT(PAPI_set_opt(PAPI_DOMAIN, &o), PAPI_EINVAL_DOM);
     WANT(PAPI_get_opt(PAPI_DOMAIN, &o), PAPI_OK);
     WANT(o.domain.domain, PAPI_DOM_KERNEL);
+    has_domain(set, PAPI_DOMAIN, PAPI_OK, PAPI_DOM_KERNEL);
+    has_domain(set, PAPI_DEFDOM, PAPI_OK, PAPI_DOM_USER);
+    has_domain(set, PAPI_GRANUL, PAPI_EINVAL, -1);
     o.domain.eventset = 7;
     o.domain.domain = PAPI_DOM_USER;
     WANT(PAPI_set_opt(PAPI_DOMAIN, &o), PAPI_ENOEVST);

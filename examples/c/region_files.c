@@ -183,8 +183,12 @@ static void events(void) {
     WANT(times("papi_hl_output/rank_000000.json", "\"component\":\"cpu\""), 5);
     take_away("papi_hl_output");
     unsetenv("PAPI_MULTIPLEX");
+    setenv("PAPI_EVENTS", "CYCLES,PACKETS,INST_RETIRED", 1); /* the second one is of another component */
+    run(counts_a_region);
+    WANT(times("papi_hl_output/rank_000000.json", "\"INST_RETIRED\":\"255\""), 1);
+    WANT(times("papi_hl_output/rank_000000.json", "\"PACKETS\":\"0\""), 1);
+    take_away("papi_hl_output");
     unsetenv("PAPI_EVENTS");
-    
     run(counts_a_region);
     WANT(times("papi_hl_output/rank_000000.json", "\"component\""), 1);
     WANT(times("papi_hl_output/rank_000000.json", "\"PAPI_TOT_CYC\":{"), 1);

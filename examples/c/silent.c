@@ -36,6 +36,7 @@ static void life(void) {
     count("BR_INST:TAKEN", 0);
     count("PAPI_LST_INS", 7);
     count("CYCLES:k", 0);
+    count("MEM:LOADS:k", 0);
     PAPI_shutdown();
 }
 
