@@ -20,9 +20,24 @@ static void *ask_and_end(void *unused) {
     return unused;
 }
 
+/* Where a cycle takes a microsecond, so does each occurrence. */
+static void take_a_while(void) {
+    float real, own, rate;
+    long long events;
+    setenv("KISTALUB_MHZ", "1", 1);
+    WANT(PAPI_ipc(&real, &own, &events, &rate), PAPI_OK);
+    WANT(kistalub_go(3, NULL), PAPI_OK);
+    WANT(PAPI_ipc(&real, &own, &events, &rate), PAPI_OK);
+    WANT((long long)((double)real * 1e9 + 0.5), 3000);
+    WANT((long long)((double)own * 1e9 + 0.5), 3000);
+    PAPI_shutdown();
+    unsetenv("KISTALUB_MHZ");
+}
+
 int main(void) {
     pthread_t thread;
     int set = PAPI_NULL;
+    take_a_while();
     ask(NULL);
     WANT(PAPI_is_initialized(), PAPI_LOW_LEVEL_INITED | PAPI_THREAD_LEVEL_INITED);
     WANT(PAPI_thread_id(), gettid());

@@ -4,7 +4,7 @@ from __future__ import annotations
 
 import unittest
 
-from parts.call_table import ABOVE_CALLS, MADE, TABLE, Call, event_arms, eventless_lines, form_clauses, made_texts, read_calls, rule_lines, with_usage
+from parts.call_table import ABOVE_CALLS, MADE, TABLE, WIDTH, Call, event_arms, eventless_lines, form_clauses, made_texts, read_calls, rule_lines, with_usage
 from parts.command import Fault
 from tests.support import ROOT, before_and_after, run_tool, some
 
@@ -47,6 +47,11 @@ class MakeCalls(unittest.TestCase):
         for name, new in lines.items():
             self.assertNotIn("probe", before[name].lower(), name)
             self.assertEqual([line for line in new if line not in after[name]], [], name)
+
+    def test_a_line_is_as_wide_as_it_may_be(self) -> None:
+        made = [eventless_lines([call_of(f"go,SET COUNTER,W{'w' * length},code,PAPI_x,goes,,ENOEVST\n")]) for length in range(1, 60)]
+        whole = [lines for lines in made if len(lines) == 3]
+        self.assertEqual((max(len(line) for lines in whole for line in lines), 0 < len(whole) < len(made)), (WIDTH, True))
 
     def test_each_form_of_arguments_is_read_and_made(self) -> None:
         for word, arguments, read, row in (
