@@ -46,6 +46,7 @@ class UnitFile(unittest.TestCase):
 
     def test_description_is_one_line_of_200_characters(self) -> None:
         self.assertEqual(unit_file.plain("  two\n lines,\tµ "), "two lines; ?")
+        self.assertEqual(unit_file.plain("a\x01b~\x7f"), "a?b~?")
         self.assertEqual(len(unit_file.plain("x" * 300)), 200)
 
     def test_names(self) -> None:
