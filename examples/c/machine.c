@@ -57,7 +57,10 @@ static void process(void) {
     WANT(is_within(map->text_start, (void *)(uintptr_t)components, map->text_end), 1);
     WANT(is_within(map->data_start, &initialized, map->data_end), 1);
     WANT(is_within(map->bss_start, &zeroed, map->bss_end), 1);
-    for (int i = 0; i < libraries->count; i++) WANT(libraries->map[i].text_start < libraries->map[i].text_end, 1);
+    for (int i = 0; i < libraries->count; i++) {
+        WANT(libraries->map[i].text_start != NULL, 1);
+        WANT(libraries->map[i].text_start < libraries->map[i].text_end, 1);
+    }
 }
 
 /* The attributes of the processor tell of the caches that the environment names. */

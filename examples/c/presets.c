@@ -17,6 +17,7 @@ int main(void) {
     WANT(PAPI_add_named_event(set, "PAPI_tot_ins"), PAPI_OK);
     WANT(PAPI_remove_named_event(set, "PAPI_Tot_ins"), PAPI_OK);
     WANT(PAPI_add_named_event(set, "papi_tot_ins"), PAPI_ENOEVNT);
+    WANT(PAPI_add_events(set, events, 0), PAPI_EINVAL);
     WANT(PAPI_add_events(set, events, 2), PAPI_OK);
     WANT(PAPI_add_event(set, PAPI_L1_DCM), PAPI_ENOEVNT);
     WANT(PAPI_start(set), PAPI_OK);

@@ -173,6 +173,7 @@ class Limits(InFolder):
                 notes = [Note(0, 0, 0, f"{number:#x}") for number in range(addresses)]
                 made = "".join(draw_profiles(tools, Place(), "s", ["t"], notes, {}))
                 self.assertEqual((made.count("<tr>") - 1, f"{addresses - 20} address" in made and "more." in made), (rows, more))
+                self.assertTrue(made.startswith('<section data-thread="0" data-set="0.0">'), made[:60])
 
     def test_forty_lines_are_listed(self) -> None:
         buckets = [Bucket(number, 1) for number in range(43)]
