@@ -5,14 +5,16 @@ from __future__ import annotations
 import subprocess
 import unittest
 from pathlib import Path
+from typing import Any, Iterator, cast
 
 from parts import unit_file
 from parts.command import Fault
 from parts.event_counters import EventCounters
-from parts.libpfm4 import Libpfm4
+from parts.libpfm4 import Event, Libpfm4, Pmu
 from parts.linux_source import PROCESSORS, Processor, find_sources
 from parts.perf_events import Places, read_event_files
 from parts.preset_umasks import read_umasks
+from parts.unit_of_pmu import ALWAYS, Converter
 from tests.support import ROOT, TOOLS, InFolder, needs_libpfm4, needs_program, run_program, run_tool, some
 
 SAMPLE = str(TOOLS / "tests/sample.events.json")
@@ -20,6 +22,24 @@ SAMPLE = str(TOOLS / "tests/sample.events.json")
 
 def places(programmable: set[int], fixed: set[int]) -> Places:
     return Places(frozenset(programmable), frozenset(fixed))
+
+
+class WideCodes:
+    """What stands for libpfm4: of two events one has a code that goes on where a umask has its bits."""
+
+    def events(self, pmu: Pmu) -> Iterator[Event]:
+        return (Event(name, "An event", ()) for name in ("PLAIN", "WIDE"))
+
+    def encode(self, name: str) -> tuple[int, ...]:
+        codes = {"p::PLAIN": 0xC0, "p::WIDE": 0x1C0, "p::WIDE:0x01": 0x2C0}
+        return (ALWAYS | codes[name],)
+
+
+class WideCode(unittest.TestCase):
+    def test_a_wide_code_is_left_out(self) -> None:
+        converter = Converter(cast(Any, WideCodes()), Pmu("p", "A pmu", "other", 2, 4, 0, 0))
+        self.assertEqual([event.name for event in converter.unit().events], ["PLAIN"])
+        self.assertEqual(converter.account.names, {"WIDE": "the code has more than 8 bits and no umask"})
 
 
 class UnitFile(unittest.TestCase):
