@@ -144,7 +144,7 @@ inner_mask_cause above name preset_choice = option_map_or (λ e. mask_cause e.ma
 abbrev pub within : ℕ → ℕ → Bool
 within bits others = bit_or bits others == others
 
--- why a UMASK_COUNTERS row is refused below this event, if it is: its umask has its counters already, or one of them is none of the event
+-- why a UMASK_COUNTERS row below this event is refused, if it is: there is no umask above it, the umask has its counters already, or a counter in the row is unknown or none of the event's
 abbrev pub mask_counters_cause : List CounterText → EventText → List Text → Option RowCause
 mask_counters_cause counters e names =
     option_map_or (λ m. if is_some m.counters then Some cause.BadRow

@@ -5,7 +5,7 @@ use Rattle.script_lines.specs.declared.fault.ScriptCause.{ScriptCause}
 use Rattle.script_lines.specs.declared.fault.ScriptCause.TheVariants.{BadArguments, BadNumber}
 use Rattle.script_lines.specs.Answers.{and_then, made_of}
 
--- the number, or the cause if there is none
+-- the number if there is one, otherwise the fault of this cause
 abbrev pub number_or : ScriptCause → Option ℕ → Result ℕ ScriptCause
 number_or cause (Some number) = Ok number
 number_or cause None = Err cause

@@ -48,6 +48,6 @@ availability_lines tables (Some d) = derived_lines tables d
 abbrev pub row_lines : CatalogView → ℕ → Text
 row_lines catalog row = name_line (row_name catalog row) ++ (code_line (code_of_row row) ++ availability_lines catalog.tables (entry catalog.book row))
 
--- the event of a name, or that there is none
+-- what is printed of the event with this name: its row, or a line that says that there is no such event
 unfoldable pub preset_event : CatalogView → Text → Text
 preset_event catalog name = option_map_or (row_lines catalog) (row_named catalog name) (codes "No such event: " ++ (name ++ 10 ∷ []))
