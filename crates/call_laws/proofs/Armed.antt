@@ -1,27 +1,12 @@
 -- Thresholds that the history of a thread shows: those of sets with a number, at or above the least one.
-use Rattle.std.proofs.Common.{rules}
-use Rattle.std.proofs.Common.{◌≡◌, ℕ, zero, suc, ◌<◌, ◌≤◌, ◌⊎◌, inl, inr, Bool, true, false, List, [], ◌∷◌, length, refl, sym, ap, subst, ◌∙◌, arith, Option, Some, None, Ok}
+use Rattle.call_laws.proofs.Words.{rules, ◌≡◌, ℕ, zero, suc, ◌<◌, ◌≤◌, ◌⊎◌, inl, inr, Bool, true, false, List, [], ◌∷◌, length, refl, sym, ap, subst}
+use Rattle.call_laws.proofs.Words.{◌∙◌, arith, Option, Some, None, Ok, both_ways, cases_lt, eqb_tells, nat_tests, All-nil, All-push, All-set}
+use Rattle.call_laws.proofs.Words.{LEAST_THRESHOLD, MOST_SETS, EventRef, Native, Book, Refusal, AtRest, Widths, is_bad_threshold, place_of}
+use Rattle.call_laws.proofs.Words.{removed_all, Call, Account, at, refused, account_refusal, performed, replies_to, step, unless, test_fails}
+use Rattle.call_laws.proofs.Words.{CallReply, Thread, answered, history, makes, first_native, threshold_at, changed, holds_after, set_now}
+use Rattle.call_laws.proofs.Words.{set_of_call}
 use Rattle.std.specs.Prelude.{All, slice_index_or}
-use Rattle.std.proofs.lemmas.Bool.{both_ways, cases_lt}
-use Rattle.std.proofs.lemmas.Bool.Decides.{eqb_tells, nat_tests}
-use Rattle.std.proofs.lemmas.List.Elements.{All-nil, All-push, All-set}
-use Rattle.papi_base.specs.declared.limits.TheConstants.{LEAST_THRESHOLD, MOST_SETS}
-use Rattle.papi_base.specs.declared.native.EventRef.{EventRef}
-use Rattle.papi_base.specs.declared.native.Native.{Native}
-use Rattle.postfix_rules.specs.Presets.{Book}
-use Rattle.event_sets.specs.declared.refusal.Refusal.{Refusal}
-use Rattle.event_sets.specs.AtRest.{AtRest, Widths, is_bad_threshold, place_of}
-use Rattle.event_sets.proofs.Removed.{removed_all}
-use Rattle.session_model.specs.CallTypes.{Call}
 use Rattle.call_type.specs.declared.call.Call.TheVariants as call
-use Rattle.session_model.specs.Account.{Account}
-use Rattle.session_model.specs.Faces.{at}
-use Rattle.session_model.specs.Replies.{refused}
-use Rattle.session_model.specs.Step.{account_refusal, performed, replies_to, step, unless}
-use Rattle.session_model.proofs.Sets.{test_fails}
-use Rattle.call_laws.specs.History.{CallReply, Thread, answered, history, makes}
-use Rattle.call_laws.specs.Passings.{first_native, threshold_at}
-use Rattle.call_laws.specs.SetCalls.{changed, holds_after, set_now, set_of_call}
 use Rattle.call_laws.proofs.Histories.{set_now-changed, set_now-made, set_now-other}
 use Rattle.call_laws.proofs.Noted.{Belongs, opening_belongs, step_belongs}
 use Rattle.call_laws.proofs.Replied.{refused_changes, said}

@@ -1,27 +1,14 @@
 -- Each line that reads or ends a region names the reading of its begin: by induction on the lines of the script.
-use Rattle.std.proofs.Common.{◌≡◌, ◌≢◌, ◌⊎◌, ◌+◌, ◌-◌, ◌≤◌, ◌<◌, ◌==◌, inl, inr, min, ℕ, zero, suc, Bool, true, false, List, [], ◌∷◌, ◌++◌}
-use Rattle.std.proofs.Common.{filter, length, length-append, replicate, take, refl, sym, ◌∙◌, ap, subst, arith, append_assoc, append-nil}
+use Rattle.call_laws.proofs.Words.{◌≡◌, ◌≢◌, ◌⊎◌, ◌+◌, ◌-◌, ◌≤◌, ◌<◌, ◌==◌, inl, inr, min, ℕ, zero, suc, Bool, true, false, List, [], ◌∷◌, ◌++◌}
+use Rattle.call_laws.proofs.Words.{filter, length, length-append, replicate, take, refl, sym, ◌∙◌, ap, subst, arith, append_assoc, append-nil}
+use Rattle.call_laws.proofs.Words.{if◌then◌else◌, nat_tests, length-take, filter-append, slice_get_within, THREADS, get_front, Text, is_skipped, Open}
+use Rattle.call_laws.proofs.Words.{after_line, after_reading, innermost, is_reading, line_with, open_of, region_line, is_begin, name_of, Refused}
+use Rattle.call_laws.proofs.Words.{lines_from, onto, put_before, above_line, all_ended, none_open, region_scripts, regions_of, RegionCause, NotEnded}
+use Rattle.call_laws.proofs.Words.{RegionCall, RegionLine, AreBegun, Encloses, IsBegun, ScriptsAreBegun, before_reading, depth_after}
+use Rattle.call_laws.proofs.Words.{depth_after_line, depth_with, reading_line}
 use Rattle.std.proofs.Common.{Option, Some, None, Result, Ok, Err, slice_get, slice_set, option_and_then}
-use Rattle.std.specs.Prelude.{if◌then◌else◌}
 use Rattle.std.specs.Str.Lines as str
-use Rattle.std.proofs.lemmas.Bool.Decides.{nat_tests}
-use Rattle.std.proofs.lemmas.List.{length-take}
-use Rattle.std.proofs.lemmas.List.Elements.{filter-append}
-use Rattle.std.proofs.lemmas.Option.{slice_get_within}
-use Rattle.papi_base.specs.declared.limits.TheConstants.{THREADS}
-use Rattle.papi_base.proofs.Steps.{get_front}
-use Rattle.table_rows.specs.Texts.{Text}
-use Rattle.script_lines.specs.Lines.{is_skipped}
-use Rattle.region_report.specs.Lines.{Open, after_line, after_reading, innermost, is_reading, line_with, open_of, region_line}
-use Rattle.region_report.specs.Reports.{is_begin, name_of}
-use Rattle.script_lines.specs.ByLine.{Refused, lines_from, onto, put_before}
-use Rattle.region_report.specs.Scripts.{above_line, all_ended, none_open, region_scripts, regions_of}
-use Rattle.region_report.specs.declared.fault.RegionCause.{RegionCause}
-use Rattle.region_report.specs.declared.fault.RegionCause.TheVariants.{NotEnded}
-use Rattle.region_report.specs.declared.regions.RegionCall.{RegionCall}
 use Rattle.region_report.specs.declared.regions.RegionCall.TheVariants as call
-use Rattle.region_report.specs.declared.regions.RegionLine.{RegionLine}
-use Rattle.call_laws.specs.Nesting.{AreBegun, Encloses, IsBegun, ScriptsAreBegun, before_reading, depth_after, depth_after_line, depth_with, reading_line}
 use Rattle.call_laws.proofs.Cases.{Called, Found, IsCalled, line_is}
 use Rattle.call_laws.proofs.Numbered.{before_grown, filter_reading, filter_running, own_before, own_number, readings, readings_more}
 

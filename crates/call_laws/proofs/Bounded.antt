@@ -1,22 +1,8 @@
 -- Bounds of counts.
-use Rattle.std.proofs.Common.{◌≡◌, ◌+◌, ◌-◌, ◌*◌, ◌≤◌, ◌<◌, ◌^◌, ◌==◌, ℕ, zero, suc, pos, Bool, true, false, List, [], ◌∷◌, ◌++◌, All, drop}
-use Rattle.std.proofs.Common.{length, length-append, take, sum, arith, Option, Some, None}
-use Rattle.std.specs.Prelude.{if◌then◌else◌}
-use Rattle.std.specs.Int.{w64}
-use Rattle.std.proofs.lemmas.Int.{fits_signed_from_abs, int_wrap_fits}
-use Rattle.std.proofs.lemmas.List.Elements.{All-head, All-tail}
-use Rattle.std.proofs.lemmas.List.Sums.{sum_by-cons}
-use Rattle.session_model.proofs.CountsInTurns.{weight_small}
-use Rattle.papi_base.specs.Weight.{held, holds, weight_of}
-use Rattle.papi_base.specs.declared.bits.Domain.{Domain}
-use Rattle.papi_base.specs.declared.native.Native.{Native}
-use Rattle.papi_base.specs.declared.occurrence.Occ.{Occ}
-use Rattle.event_sets.specs.AtRest.{new_set}
-use Rattle.region_report.specs.Kept.{count_of}
-use Rattle.region_report.specs.declared.regions.RegionLine.{RegionLine}
-use Rattle.session_model.specs.Counts.{along}
-use Rattle.call_laws.specs.Exact.{NativesAreExact}
-use Rattle.call_laws.specs.Positions.{asked_in, count_between, position, weights}
+use Rattle.call_laws.proofs.Words.{◌≡◌, ◌+◌, ◌-◌, ◌*◌, ◌≤◌, ◌<◌, ◌^◌, ◌==◌, ℕ, zero, suc, pos, Bool, true, false, List, [], ◌∷◌, ◌++◌, All, drop}
+use Rattle.call_laws.proofs.Words.{length, length-append, take, sum, arith, Option, Some, None, if◌then◌else◌, w64, fits_signed_from_abs}
+use Rattle.call_laws.proofs.Words.{int_wrap_fits, All-head, All-tail, sum_by-cons, weight_small, held, holds, weight_of, Domain, Native, Occ, new_set}
+use Rattle.call_laws.proofs.Words.{count_of, RegionLine, along, NativesAreExact, asked_in, count_between, position, weights}
 
 -- each of some numbers is at most 255
 abbrev AreSmall : List ℕ → Type 0

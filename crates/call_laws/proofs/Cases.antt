@@ -1,20 +1,11 @@
 -- What an answer that is read says of the parts that it was read from.
-use Rattle.std.proofs.Common.{◌≡◌, ◌⊎◌, inl, inr, ℕ, Bool, true, false, List, [], ◌∷◌, refl, sym, ◌∙◌, ap, Option, Some, None, Result, Ok, Err, bytes_eq, codes, nat_le}
-use Rattle.std.specs.Prelude.{if◌then◌else◌}
-use Rattle.std.proofs.lemmas.Slice.Eq.{bytes_eq-Decides}
-use Rattle.table_rows.specs.Texts.{Text}
-use Rattle.script_lines.specs.Arguments.{one_number}
-use Rattle.script_lines.specs.Answers.{and_then}
+use Rattle.call_laws.proofs.Words.{◌≡◌, ◌⊎◌, inl, inr, ℕ, Bool, true, false, List, [], ◌∷◌, refl, sym, ◌∙◌, ap, Option, Some, None, Result, Ok, Err}
+use Rattle.call_laws.proofs.Words.{bytes_eq, codes, nat_le, if◌then◌else◌, bytes_eq-Decides, Text, one_number, and_then, words_of, Open, begin_call}
+use Rattle.call_laws.proofs.Words.{begun_name, begun_of, by_script, innermost, innermost_call, innermost_name, region_call, line_of_thread}
+use Rattle.call_laws.proofs.Words.{line_of_words, line_with, one_name, open_of, region_line, run_call, RegionCause, OverLimit, UnknownCall}
+use Rattle.call_laws.proofs.Words.{WrongRegion, RegionCall, RegionLine, MOST_LINES}
 use Rattle.script_lines.specs.Lines.{thread_in}
-use Rattle.script_lines.specs.Words.{words_of}
-use Rattle.region_report.specs.Lines.{Open, begin_call, begun_name, begun_of, by_script, innermost, innermost_call, innermost_name, region_call}
-use Rattle.region_report.specs.Lines.{line_of_thread, line_of_words, line_with, one_name, open_of, region_line, run_call}
-use Rattle.region_report.specs.declared.fault.RegionCause.{RegionCause}
-use Rattle.region_report.specs.declared.fault.RegionCause.TheVariants.{OverLimit, UnknownCall, WrongRegion}
-use Rattle.region_report.specs.declared.regions.RegionCall.{RegionCall}
 use Rattle.region_report.specs.declared.regions.RegionCall.TheVariants as call
-use Rattle.region_report.specs.declared.regions.RegionLine.{RegionLine}
-use Rattle.region_report.specs.declared.regions.TheConstants.{MOST_LINES}
 
 -- both parts were read
 both_read : {A B : Type 0} (first : Result A RegionCause) (next : A → Result B RegionCause) (b : B) → and_then first next ≡ Ok b

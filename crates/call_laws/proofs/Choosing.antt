@@ -1,11 +1,8 @@
 -- The first of the assignments that are listed is the least one.
-use Rattle.std.proofs.Common.{◌≡◌, ℕ, zero, suc, ◌≤◌, inl, inr, refl, sym, subst, ◌∙◌, arith, List, [], ◌∷◌, get_or, Some, slice_get, true}
+use Rattle.call_laws.proofs.Words.{◌≡◌, ℕ, zero, suc, ◌≤◌, inl, inr, refl, sym, subst, ◌∙◌, arith, List, [], ◌∷◌, get_or, Some, slice_get, true}
+use Rattle.call_laws.proofs.Words.{Assignable, AtOrBefore, IsLeast, IsBefore, assigns, least, AreMasks, is_assignable_true, In, Ordered, listed}
+use Rattle.call_laws.proofs.Words.{of_listed, ordered_assigns}
 use Rattle.std.specs.Prelude.{Option, None, is_some, unwrap_or}
-use Rattle.counter_alloc.specs.Assignments.{Assignable, AtOrBefore, IsLeast}
-use Rattle.counter_alloc.specs.Listing.{IsBefore, assigns, least}
-use Rattle.counter_alloc.specs.Masks.{AreMasks}
-use Rattle.counter_alloc.proofs.Fitting.{is_assignable_true}
-use Rattle.counter_alloc.proofs.Listed.{In, Ordered, listed, of_listed, ordered_assigns}
 
 before_at : (first second : List ℕ) → IsBefore first second → AtOrBefore first second
 before_at [] second h k below agrees = absurd h

@@ -1,46 +1,18 @@
 -- What calls reply of counters: by the account that follows the history of a thread's calls.
-use Rattle.std.proofs.lemmas.Bool.{ne_eqb}
-use Rattle.std.proofs.lemmas.Bool.Decides.{eqb_tells}
-use Rattle.std.proofs.Common.{◌≡◌, ◌≢◌, ◌<◌, ◌≤◌, ◌^◌, inl, inr, ℕ, zero, suc, Bool, true, false, ◌==◌, List, [], ◌∷◌, length, take, refl, sym, ap, subst, ◌∙◌, arith, slice_get, Option, Some, None, Ok}
+use Rattle.call_laws.proofs.Words.{ne_eqb, eqb_tells, ◌≡◌, ◌≢◌, ◌<◌, ◌≤◌, ◌^◌, inl, inr, ℕ, zero, suc, Bool, true, false, ◌==◌, List, [], ◌∷◌, length}
+use Rattle.call_laws.proofs.Words.{take, refl, sym, ap, subst, ◌∙◌, arith, slice_get, Option, Some, None, Ok, option_map, option_map_or, EventRef}
+use Rattle.call_laws.proofs.Words.{Native, Assignable, is_assignable, AreMasks, masks_of, assignable_of, mask_small, not_assignable_of, BookFits}
+use Rattle.call_laws.proofs.Words.{EventFits, IsHeld, Book, natives_of_event, one_more_joins, alone, blamed, blamed_unless, AtRest, Widths}
+use Rattle.call_laws.proofs.Words.{cannot_take, clash_with, is_full, natives_with, set_natives, widths_at, Clash, Conflict, by_number, numbered}
+use Rattle.call_laws.proofs.Words.{are_masks, joined_all, conflict_is_least, few_counters, Call, Body, Reply, Account, Kept, IsGood, at, face_of}
+use Rattle.call_laws.proofs.Words.{faces_of, AreFit, IsFit, IsShape, conflict_row, first_of, assigned, done, plain, account_after, account_refusal}
+use Rattle.call_laws.proofs.Words.{performed, step, unless, fit_stays, opening_fits, event_fits, get_some, at_map, AssignsLeast, ConflictsByCounters}
+use Rattle.call_laws.proofs.Words.{ConflictsByTurns, IsByCounters, IsByTurns, IsFirstWithout, IsOpenTo, IsOverUnit, conflict, is_there, new_natives}
+use Rattle.call_laws.proofs.Words.{Thread, answered, begun, is_ok, reply_after, runs_now, set_now}
 use Rattle.std.specs.Prelude.{All, find, is_some}
-use Rattle.std.specs.Option.{option_map, option_map_or}
 use Rattle.papi_base.specs.declared.code.Code.TheVariants as code
-use Rattle.papi_base.specs.declared.native.EventRef.{EventRef}
-use Rattle.papi_base.specs.declared.native.Native.{Native}
-use Rattle.counter_alloc.specs.Assignments.{Assignable}
-use Rattle.counter_alloc.specs.Listing.{is_assignable}
-use Rattle.counter_alloc.specs.Masks.{AreMasks, masks_of}
-use Rattle.counter_alloc.proofs.Fitting.{assignable_of, mask_small, not_assignable_of}
-use Rattle.postfix_rules.specs.Fitting.{BookFits, EventFits, IsHeld}
-use Rattle.postfix_rules.specs.Presets.{Book, natives_of_event}
-use Rattle.postfix_rules.proofs.Joined.{one_more_joins}
-use Rattle.event_sets.specs.Assigning.{alone, blamed, blamed_unless}
-use Rattle.event_sets.specs.AtRest.{AtRest, Widths, cannot_take, clash_with, is_full, natives_with, set_natives, widths_at}
-use Rattle.event_sets.specs.declared.refusal.Clash.{Clash}
-use Rattle.event_sets.specs.declared.refusal.Refusal.TheVariants.{Conflict}
-use Rattle.event_sets.proofs.Agreeing.{by_number, numbered}
-use Rattle.event_sets.proofs.Clashing.{are_masks}
-use Rattle.event_sets.proofs.JoinedNatives.{joined_all}
-use Rattle.event_sets.proofs.LeastClash.{conflict_is_least}
-use Rattle.event_sets.proofs.Sound.{few_counters}
-use Rattle.session_model.specs.CallTypes.{Call}
 use Rattle.call_type.specs.declared.call.Call.TheVariants as call
-use Rattle.session_model.specs.declared.reply.Body.{Body}
 use Rattle.session_model.specs.declared.reply.Body.TheVariants as body
-use Rattle.session_model.specs.declared.reply.Reply.{Reply}
-use Rattle.session_model.specs.Account.{Account, Kept}
-use Rattle.session_model.specs.Conditions.{IsGood}
-use Rattle.session_model.specs.Faces.{at, face_of, faces_of}
-use Rattle.session_model.specs.Fitness.{AreFit, IsFit, IsShape}
-use Rattle.session_model.specs.Refusals.{conflict_row, first_of}
-use Rattle.session_model.specs.Replies.{assigned, done, plain}
-use Rattle.session_model.specs.Step.{account_after, account_refusal, performed, step, unless}
-use Rattle.session_model.proofs.FitStays.{fit_stays, opening_fits}
-use Rattle.session_model.proofs.Fits.{event_fits, get_some}
-use Rattle.session_model.proofs.Sets.{at_map}
-use Rattle.call_laws.specs.Conflicts.{AssignsLeast, ConflictsByCounters, ConflictsByTurns, IsByCounters, IsByTurns, IsFirstWithout, IsOpenTo, IsOverUnit, conflict, is_there, new_natives}
-use Rattle.call_laws.specs.History.{Thread, answered, begun, is_ok, reply_after}
-use Rattle.call_laws.specs.SetCalls.{runs_now, set_now}
 use Rattle.call_laws.proofs.Choosing.{least_chosen}
 use Rattle.call_laws.proofs.Steps.{thread_follows}
 use Rattle.call_laws.proofs.There.{thread_there}

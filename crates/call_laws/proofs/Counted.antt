@@ -1,15 +1,7 @@
 -- What a set that was never stopped shows of the counts up to a position.
-use Rattle.std.proofs.Common.{◌≡◌, ◌-◌, ℕ, zero, suc, pos, List, [], ◌∷◌, map, take, sum, refl, ◌∙◌, ap, ap₂, arith, Option, Some, None}
-use Rattle.papi_base.specs.Weight.{weight_of}
-use Rattle.papi_base.specs.declared.native.EventRef.{EventRef}
-use Rattle.papi_base.specs.declared.native.Native.{Native}
-use Rattle.papi_base.specs.declared.occurrence.Occ.{Occ}
-use Rattle.postfix_rules.specs.Presets.{Book, event_value, natives_of_event, rule_of_event}
-use Rattle.postfix_rules.specs.Rules.{rule_value}
-use Rattle.event_sets.specs.AtRest.{AtRest, new_set}
-use Rattle.session_model.specs.Counts.{along, count}
-use Rattle.session_model.specs.Values.{measured, values_of}
-use Rattle.call_laws.specs.Positions.{count_between, value_at, weights}
+use Rattle.call_laws.proofs.Words.{◌≡◌, ◌-◌, ℕ, zero, suc, pos, List, [], ◌∷◌, map, take, sum, refl, ◌∙◌, ap, ap₂, arith, Option, Some, None}
+use Rattle.call_laws.proofs.Words.{weight_of, EventRef, Native, Occ, Book, event_value, natives_of_event, rule_of_event, rule_value, AtRest, new_set}
+use Rattle.call_laws.proofs.Words.{along, count, measured, values_of, count_between, value_at, weights}
 use Rattle.call_laws.proofs.Opened.{counting_set, domain_with, events_with, slice_with, with_events}
 
 along_take : (weigh : Option Occ → Occ → ℕ) (before : Option Occ) (os : List Occ) (q : ℕ) → along weigh before (take q os) ≡ take q (along weigh before os)

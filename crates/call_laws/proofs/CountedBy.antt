@@ -1,11 +1,5 @@
 -- The laws of a script, its begins and its readings, put together.
-use Rattle.std.proofs.Common.{◌∙◌, List, ap, subst}
-use Rattle.region_report.specs.Spans.{spans_from}
-use Rattle.session_model.specs.World.{opening_world, told}
-use Rattle.session_model.specs.declared.line.Line.{Line}
-use Rattle.call_laws.specs.Readings.{readings_told}
-use Rattle.call_laws.specs.Scripts.{CountsByPosition}
-use Rattle.call_laws.specs.Spans.{AllFit}
+use Rattle.call_laws.proofs.Words.{◌∙◌, List, ap, subst, spans_from, opening_world, told, Line, readings_told, CountsByPosition, AllFit}
 use Rattle.call_laws.proofs.Begun.{scripts_are_begun}
 use Rattle.call_laws.proofs.LookedUp.{script_is_looked_up}
 use Rattle.call_laws.proofs.Spanned.{spans_by_position}

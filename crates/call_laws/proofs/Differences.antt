@@ -1,17 +1,8 @@
 -- The wrapped difference of the values up to two positions is the value between them.
-use Rattle.std.proofs.Common.{◌≡◌, ◌+◌, ◌-◌, ◌≤◌, ℕ, pos, ◌-ℤ◌, List, [], ◌∷◌, map, drop, take, sum, All, FitsSigned, refl, ◌∙◌, ap, ap₂, arith}
-use Rattle.std.specs.Int.{int_wrap, int_wrapping_sub, w64}
-use Rattle.std.proofs.Math.Seq.{take-add}
-use Rattle.std.proofs.lemmas.Int.{ints, wrapping_sub_is}
-use Rattle.std.proofs.lemmas.List.Elements.{All-head, All-tail}
-use Rattle.std.proofs.lemmas.List.Sums.{sum_by-append}
-use Rattle.papi_base.specs.declared.native.EventRef.{EventRef}
+use Rattle.call_laws.proofs.Words.{◌≡◌, ◌+◌, ◌-◌, ◌≤◌, ℕ, pos, ◌-ℤ◌, List, [], ◌∷◌, map, drop, take, sum, All, FitsSigned, refl, ◌∙◌, ap, ap₂, arith}
+use Rattle.call_laws.proofs.Words.{int_wrap, int_wrapping_sub, w64, take-add, ints, wrapping_sub_is, All-head, All-tail, sum_by-append, EventRef}
+use Rattle.call_laws.proofs.Words.{Native, Occ, Book, difference, pairwise, count_between, value_at, value_between, weights}
 use Rattle.papi_base.specs.declared.native.EventRef.TheVariants as event
-use Rattle.papi_base.specs.declared.native.Native.{Native}
-use Rattle.papi_base.specs.declared.occurrence.Occ.{Occ}
-use Rattle.postfix_rules.specs.Presets.{Book}
-use Rattle.region_report.specs.Spans.{difference, pairwise}
-use Rattle.call_laws.specs.Positions.{count_between, value_at, value_between, weights}
 
 -- a count up to q is that up to p and that from there on
 pub count_split : (tape : List Occ) (p q : ℕ) (n : Native) → p ≤ q → count_between tape 0 q n ≡ count_between tape 0 p n + count_between tape p q n

@@ -1,29 +1,11 @@
 -- An account follows the history of its calls: what the history says of a set is what the account keeps of it.
-use Rattle.std.proofs.Common.{rules}
-use Rattle.std.proofs.lemmas.Bool.Decides.{nat_tests}
-use Rattle.std.proofs.Common.{◌≡◌, ◌≢◌, ℕ, ◌+◌, inl, inr, Bool, true, false, List, [], ◌∷◌, ◌++◌, length, take, drop, refl, sym, ap, ap₂, subst, ◌∙◌, arith, Option, Some, None, Ok}
-use Rattle.std.proofs.Common.{slice_set}
-use Rattle.std.specs.Prelude.{if◌then◌else◌}
-use Rattle.std.specs.Option.{option_map, option_map_or}
-use Rattle.std.proofs.lemmas.Bool.Decides.{eqb_tells}
-use Rattle.std.proofs.lemmas.List.{drop-drop}
-use Rattle.std.proofs.Math.Seq.{take-add}
-use Rattle.papi_base.specs.declared.occurrence.Occ.{Occ}
-use Rattle.postfix_rules.specs.Presets.{Book}
-use Rattle.session_model.specs.CallTypes.{Call}
+use Rattle.call_laws.proofs.Words.{rules, nat_tests, ◌≡◌, ◌≢◌, ℕ, ◌+◌, inl, inr, Bool, true, false, List, [], ◌∷◌, ◌++◌, length, take, drop, refl}
+use Rattle.call_laws.proofs.Words.{sym, ap, ap₂, subst, ◌∙◌, arith, Option, Some, None, Ok, slice_set, if◌then◌else◌, option_map, option_map_or}
+use Rattle.call_laws.proofs.Words.{eqb_tells, drop-drop, take-add, Occ, Book, Call, Reply, Kept, AllWithin, IsWithin, kept_after, new_kept, in_window}
+use Rattle.call_laws.proofs.Words.{at, change, values_of, each_at, CallReply, OccAfter, is_ok, makes, placed_after, taken, taken_by, changed, set_now}
+use Rattle.call_laws.proofs.Words.{holds_after, is_accum, is_clearing, is_zeroing, runs_now, runs_after, set_of_call, values_over, added, values_now}
+use Rattle.call_laws.proofs.Words.{window, wrapped_sums}
 use Rattle.call_type.specs.declared.call.Call.TheVariants as call
-use Rattle.session_model.specs.declared.reply.Reply.{Reply}
-use Rattle.session_model.specs.Account.{Kept}
-use Rattle.session_model.specs.Bounds.{AllWithin, IsWithin}
-use Rattle.session_model.specs.Changes.{kept_after, new_kept}
-use Rattle.session_model.specs.Counts.{in_window}
-use Rattle.session_model.specs.Faces.{at, change}
-use Rattle.session_model.specs.Values.{values_of}
-use Rattle.session_model.proofs.Sets.{each_at}
-use Rattle.call_laws.specs.History.{CallReply, OccAfter, is_ok, makes, placed_after, taken, taken_by}
-use Rattle.call_laws.specs.SetCalls.{changed, set_now, holds_after, is_accum, is_clearing, is_zeroing, runs_now, runs_after, set_of_call}
-use Rattle.call_laws.specs.Measures.{values_over}
-use Rattle.call_laws.specs.Values.{added, values_now, window, wrapped_sums}
 use Rattle.call_laws.proofs.Measured.{values_are}
 use Rattle.call_laws.proofs.Histories.{added-changed, added-made, added-other, set_now-changed, set_now-made, set_now-other, runs_now-changed, runs_now-other, window-made, window-running, window-same, window-stays, window-zeroing, zeroes-changed, zeroes-other}
 use Rattle.call_laws.proofs.Places.{at-change_same, at-put_none, at-put_other, at-put_same}

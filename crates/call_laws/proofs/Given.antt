@@ -1,22 +1,10 @@
 -- The occurrences that a stream gives have amounts from 1 to 255 and stamps that rise.
-use Rattle.std.proofs.Common.{◌≡◌, ◌+◌, ◌<◌, ◌≤◌, ℕ, true, List, [], ◌∷◌, Option, Some, None, refl, arith}
+use Rattle.call_laws.proofs.Words.{◌≡◌, ◌+◌, ◌<◌, ◌≤◌, ℕ, true, List, [], ◌∷◌, Option, Some, None, refl, arith, ltb-true, All-cons, All-nil}
+use Rattle.call_laws.proofs.Words.{All-weaker, AllPairs-cons, Tape, LARGEST_AMOUNT, LAST_STAMP, Occ, Ending, Rises, Judgement, Bad, Skipped, Version}
+use Rattle.call_laws.proofs.Words.{Occurs, LineStart, is_above, judged, IsStart, after, first_start, joined, least_stamp, occurs_from, occurs_of}
+use Rattle.call_laws.proofs.Words.{IsLine, line-occurrence, stamp-fits, state-next, AmountsFit, StampsFit, StampsRise, said}
 use Rattle.std.specs.Prelude.{All, AllPairs}
-use Rattle.std.proofs.lemmas.Bool.{ltb-true}
-use Rattle.std.proofs.lemmas.List.Elements.{All-cons, All-nil, All-weaker}
-use Rattle.std.proofs.lemmas.List.Kept.{AllPairs-cons}
-use Rattle.papi_base.specs.Outside.{Tape}
-use Rattle.papi_base.specs.declared.limits.TheConstants.{LARGEST_AMOUNT, LAST_STAMP}
-use Rattle.papi_base.specs.declared.occurrence.Occ.{Occ}
-use Rattle.papi_base.specs.declared.outside.Ending.{Ending}
-use Rattle.session_model.specs.Bounds.{Rises}
-use Rattle.stream_reader.specs.declared.line.Judgement.{Judgement}
-use Rattle.stream_reader.specs.declared.line.Judgement.TheVariants.{Bad, Skipped, Version, Occurs}
-use Rattle.stream_reader.specs.declared.line.LineStart.{LineStart}
-use Rattle.stream_reader.specs.Judged.{is_above, judged}
 use Rattle.stream_reader.specs.Lines.{Line, tape_lines}
-use Rattle.stream_reader.specs.Occurs.{IsStart, after, first_start, joined, least_stamp, occurs_from, occurs_of}
-use Rattle.stream_reader.proofs.Bounds.{IsLine, line-occurrence, stamp-fits, state-next}
-use Rattle.call_laws.specs.Tapes.{AmountsFit, StampsFit, StampsRise, said}
 
 -- what an occurrence is that comes from this time on
 record IsGiven (time : ℕ) (o : Occ) : Type 0 where

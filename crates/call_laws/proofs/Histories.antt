@@ -1,15 +1,8 @@
 -- What one more call does to what a history says of a set.
-use Rattle.std.proofs.Common.{arith}
-use Rattle.std.proofs.lemmas.Bool.Decides.{nat_tests}
-use Rattle.std.proofs.Common.{◌≡◌, ℕ, Bool, true, false, List, [], ◌∷◌, ◌++◌, refl}
-use Rattle.std.specs.Prelude.{if◌then◌else◌}
+use Rattle.call_laws.proofs.Words.{arith, nat_tests, ◌≡◌, ℕ, Bool, true, false, List, [], ◌∷◌, ◌++◌, refl, if◌then◌else◌, Occ, Book, new_set}
+use Rattle.call_laws.proofs.Words.{CallReply, makes, newly_taken, taken_by, changed, set_now, holds_after, is_accum, is_clearing, is_zeroing}
+use Rattle.call_laws.proofs.Words.{runs_now, runs_after, zeroes, added, values_now, window}
 use Rattle.std.proofs.lemmas.List.{append-nil}
-use Rattle.papi_base.specs.declared.occurrence.Occ.{Occ}
-use Rattle.postfix_rules.specs.Presets.{Book}
-use Rattle.event_sets.specs.AtRest.{new_set}
-use Rattle.call_laws.specs.History.{CallReply, makes, newly_taken, taken_by}
-use Rattle.call_laws.specs.SetCalls.{changed, set_now, holds_after, is_accum, is_clearing, is_zeroing, runs_now, runs_after, zeroes}
-use Rattle.call_laws.specs.Values.{added, values_now, window}
 
 -- ---- a call that changed another set or none
 

@@ -30,3 +30,4 @@ pub mod Choosing
 pub mod There
 pub mod Conflicting
 pub mod OwnCalls
+pub mod Words

@@ -1,38 +1,17 @@
 -- Each reading shows the values up to the position of its line: by induction on the lines.
-use Rattle.std.proofs.Common.{◌≡◌, ◌≢◌, ◌+◌, ◌-◌, ◌<◌, ◌==◌, ◌||◌, min, ℕ, Bool, true, false, List, [], ◌∷◌, ◌++◌, map, drop, take, length}
+use Rattle.call_laws.proofs.Words.{◌≡◌, ◌≢◌, ◌+◌, ◌-◌, ◌<◌, ◌==◌, ◌||◌, min, ℕ, Bool, true, false, List, [], ◌∷◌, ◌++◌, map, drop, take, length}
+use Rattle.call_laws.proofs.Words.{slice_index_or, if◌then◌else◌, range_with_len, take-add, nat_tests, All-head, All-tail, or_right, Coming, Dry}
+use Rattle.call_laws.proofs.Words.{Mark, MOST_SETS, THREADS, EventRef, Occ, Book, AtRest, Widths, new_set, has_lines, count_of, reads_call}
+use Rattle.call_laws.proofs.Words.{RegionCall, RegionLine, Account, opening, account_after, step, values_of, Setting, World, account_at}
+use Rattle.call_laws.proofs.Words.{opening_world, told, world_after, world_after_line, account_by_thread, opens_by_thread, set_other, set_same}
+use Rattle.call_laws.proofs.Words.{asked_in, position, stream_of, ReadsByPosition, TakesAll, call_line, call_on_set, opening_script, readings_after}
+use Rattle.call_laws.proofs.Words.{readings_told, reading_at, values_in, found}
 use Rattle.std.proofs.Common.{replicate, refl, sym, ◌∙◌, ap, ap₂, subst, arith, append_assoc, nat_lt, All, Some, None, slice_get, slice_set}
-use Rattle.std.proofs.Common.{slice_index_or}
-use Rattle.std.specs.Prelude.{if◌then◌else◌}
-use Rattle.std.specs.List.{range_with_len}
-use Rattle.std.proofs.Math.Seq.{take-add}
-use Rattle.std.proofs.lemmas.Bool.Decides.{nat_tests}
 use Rattle.std.proofs.lemmas.List.{drop-drop, length-drop}
-use Rattle.std.proofs.lemmas.List.Elements.{All-head, All-tail}
-use Rattle.std.proofs.lemmas.Bool.{or_right}
-use Rattle.papi_base.specs.Streams.{Coming, Dry, Mark}
-use Rattle.papi_base.specs.declared.limits.TheConstants.{MOST_SETS, THREADS}
-use Rattle.papi_base.specs.declared.native.EventRef.{EventRef}
-use Rattle.papi_base.specs.declared.occurrence.Occ.{Occ}
-use Rattle.postfix_rules.specs.Presets.{Book}
-use Rattle.event_sets.specs.AtRest.{AtRest, Widths, new_set}
-use Rattle.region_report.specs.Calls.{has_lines}
-use Rattle.region_report.specs.Kept.{count_of}
-use Rattle.region_report.specs.Lines.{reads_call}
-use Rattle.region_report.specs.declared.regions.RegionCall.{RegionCall}
 use Rattle.region_report.specs.declared.regions.RegionCall.TheVariants as region
-use Rattle.region_report.specs.declared.regions.RegionLine.{RegionLine}
-use Rattle.session_model.specs.Account.{Account, opening}
-use Rattle.session_model.specs.Step.{account_after, step}
-use Rattle.session_model.specs.Values.{values_of}
-use Rattle.session_model.specs.World.{Setting, World, account_at, opening_world, told, world_after, world_after_line}
-use Rattle.session_model.proofs.ByThread.{account_by_thread, opens_by_thread}
-use Rattle.session_model.proofs.Places.{set_other, set_same}
-use Rattle.call_laws.specs.Positions.{asked_in, position, stream_of}
-use Rattle.call_laws.specs.Readings.{ReadsByPosition, TakesAll, call_line, call_on_set, opening_script, readings_after, readings_told, reading_at, values_in}
 use Rattle.call_laws.proofs.Counted.{shown}
 use Rattle.call_laws.proofs.Opened.{counting, counting_set, opened, opening_among, with_events}
 use Rattle.call_laws.proofs.Told.{quiet_openings, told_append}
-use Rattle.session_model.proofs.ByThread.{found}
 
 -- ---- one line of a thread
 

@@ -1,24 +1,12 @@
 -- The lines of the script, one by one.
-use Rattle.std.proofs.Common.{◌≡◌, ◌+◌, ℕ, Bool, true, false, List, [], ◌∷◌, ◌++◌, map, refl, sym, ◌∙◌, ap, ap₂, Ok}
-use Rattle.std.specs.Prelude.{if◌then◌else◌}
-use Rattle.std.specs.List.{flat_map, range_with_len}
-use Rattle.std.proofs.lemmas.List.{map-append}
-use Rattle.papi_base.specs.declared.limits.TheConstants.{THREADS}
-use Rattle.papi_base.specs.declared.native.EventRef.{EventRef}
-use Rattle.table_rows.specs.Texts.{Text}
-use Rattle.script_lines.specs.Calls.{Written}
-use Rattle.region_report.specs.Calls.{has_lines}
+use Rattle.call_laws.proofs.Words.{◌≡◌, ◌+◌, ℕ, Bool, true, false, List, [], ◌∷◌, ◌++◌, map, refl, sym, ◌∙◌, ap, ap₂, Ok, if◌then◌else◌, flat_map}
+use Rattle.call_laws.proofs.Words.{range_with_len, map-append, THREADS, EventRef, Text, Written, has_lines, RegionCall, RegionLine, Asked, Call, Line}
+use Rattle.call_laws.proofs.Words.{call_line, call_on_set, line_of, opening_calls, opening_lines, LooksUp, ScriptIsLookedUp, line_by}
 use Rattle.region_report.specs.CallLines as calls
-use Rattle.region_report.specs.declared.regions.RegionCall.{RegionCall}
 use Rattle.region_report.specs.declared.regions.RegionCall.TheVariants as region
-use Rattle.region_report.specs.declared.regions.RegionLine.{RegionLine}
-use Rattle.session_model.specs.CallTypes.{Asked, Call}
 use Rattle.call_type.specs.declared.call.Call.{Call as CallOf}
 use Rattle.call_type.specs.declared.call.Call.TheVariants as call
 use Rattle.call_type.specs.declared.call.Asked.TheVariants as asked
-use Rattle.session_model.specs.declared.line.Line.{Line}
-use Rattle.call_laws.specs.Readings.{call_line, call_on_set, line_of, opening_calls, opening_lines}
-use Rattle.call_laws.specs.Scripts.{LooksUp, ScriptIsLookedUp, line_by}
 
 -- a call on a session is asked for
 abbrev asks_call : Call → Asked

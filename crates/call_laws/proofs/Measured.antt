@@ -1,28 +1,10 @@
 -- What the model counts and estimates over a set's window is what the law does over its occurrences.
-use Rattle.std.proofs.lemmas.Bool.Decides.{nat_tests}
-use Rattle.std.proofs.Common.{◌≡◌, ℕ, ◌+◌, ◌-◌, Bool, true, false, List, [], ◌∷◌, ◌++◌, length, take, drop, map, refl, sym, ap, ap₂, ◌∙◌, arith, Option, Some, None}
+use Rattle.call_laws.proofs.Words.{nat_tests, ◌≡◌, ℕ, ◌+◌, ◌-◌, Bool, true, false, List, [], ◌∷◌, ◌++◌, length, take, drop, map, refl, sym, ap, ap₂}
+use Rattle.call_laws.proofs.Words.{◌∙◌, arith, Option, Some, None, position_or_len, zero-div, zero-mul, take-add, take-length, take-append-drop}
+use Rattle.call_laws.proofs.Words.{last-append, Native, Occ, weight_of, masks_of, groups, Turns, active, estimate, weight_in_turn, Book, same_native}
+use Rattle.call_laws.proofs.Words.{AtRest, set_natives, Kept, end, last_after, time_after, IsWithin, in_window, estimated, total, turns_of, measured}
+use Rattle.call_laws.proofs.Words.{values_of, OccAfter, placed_after, begins, ends, estimate_in, estimate_over, measure_over, values_over}
 use Rattle.std.specs.Prelude.{if◌then◌else◌, slice_index, sum}
-use Rattle.std.specs.List.{position_or_len}
-use Rattle.std.proofs.Math.Nat.{zero-div, zero-mul}
-use Rattle.std.proofs.Math.Seq.{take-add, take-length}
-use Rattle.std.proofs.lemmas.List.{take-append-drop}
-use Rattle.session_model.proofs.CountsInTurns.{last-append}
-use Rattle.papi_base.specs.declared.native.Native.{Native}
-use Rattle.papi_base.specs.declared.occurrence.Occ.{Occ}
-use Rattle.papi_base.specs.Weight.{weight_of}
-use Rattle.counter_alloc.specs.Masks.{masks_of}
-use Rattle.multiplex.specs.Groups.{groups}
-use Rattle.multiplex.specs.Turns.{Turns, active, estimate, weight_in_turn}
-use Rattle.postfix_rules.specs.Presets.{Book}
-use Rattle.postfix_rules.specs.Sameness.{same_native}
-use Rattle.event_sets.specs.AtRest.{AtRest, set_natives}
-use Rattle.session_model.specs.Account.{Kept, end, last_after, time_after}
-use Rattle.session_model.specs.Bounds.{IsWithin}
-use Rattle.session_model.specs.Counts.{in_window}
-use Rattle.session_model.specs.Estimates.{estimated, total, turns_of}
-use Rattle.session_model.specs.Values.{measured, values_of}
-use Rattle.call_laws.specs.History.{OccAfter, placed_after}
-use Rattle.call_laws.specs.Measures.{begins, ends, estimate_in, estimate_over, measure_over, values_over}
 use Rattle.call_laws.proofs.Windows.{placed-drop, placed-take, weighed_is}
 
 -- ---- the time of a window

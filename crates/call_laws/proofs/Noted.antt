@@ -1,29 +1,13 @@
 -- The notes of a thread's calls are the passings that their history shows.
-use Rattle.std.proofs.lemmas.Bool.Decides.{nat_tests}
-use Rattle.std.proofs.Common.{◌≡◌, ℕ, ◌≤◌, Bool, true, false, List, [], ◌∷◌, ◌++◌, length, take, drop, map, refl, sym, ap, ap₂, subst, ◌∙◌, arith, Option, Some, None}
+use Rattle.call_laws.proofs.Words.{nat_tests, ◌≡◌, ℕ, ◌≤◌, Bool, true, false, List, [], ◌∷◌, ◌++◌, length, take, drop, map, refl, sym, ap, ap₂, subst}
+use Rattle.call_laws.proofs.Words.{◌∙◌, arith, Option, Some, None, flat_map, range_with_len, MOST_SETS, Occ, Book, AtRest, Widths, Call, Account}
+use Rattle.call_laws.proofs.Words.{Kept, last_after, IsWithin, in_window, at, sight_of_kept, notes_to, performed, replies_to, step, notes_at}
+use Rattle.call_laws.proofs.Words.{notes_of_place, notes_over, passed_in, places_stay, each_at, step_has, last-append, CallReply, OccAfter, Thread}
+use Rattle.call_laws.proofs.Words.{begun, history, placed_after, taken, taken_by, NotesAreThePassings, note_of, notes_of_call, notes_of_occ}
+use Rattle.call_laws.proofs.Words.{notes_of_run, notes_of_set, passing_indexes, passings, runs_now, set_now, window}
 use Rattle.std.specs.Prelude.{filter, if◌then◌else◌, min}
-use Rattle.std.specs.List.{flat_map, range_with_len}
 use Rattle.std.proofs.lemmas.List.{append-nil, append_assoc, length-append, length-replicate}
-use Rattle.papi_base.specs.declared.limits.TheConstants.{MOST_SETS}
-use Rattle.papi_base.specs.declared.occurrence.Occ.{Occ}
-use Rattle.postfix_rules.specs.Presets.{Book}
-use Rattle.event_sets.specs.AtRest.{AtRest, Widths}
-use Rattle.session_model.specs.CallTypes.{Call}
 use Rattle.call_type.specs.declared.call.Call.TheVariants as call
-use Rattle.session_model.specs.Account.{Account, Kept, last_after}
-use Rattle.session_model.specs.Bounds.{IsWithin}
-use Rattle.session_model.specs.Counts.{in_window}
-use Rattle.session_model.specs.Faces.{at}
-use Rattle.session_model.specs.Replies.{sight_of_kept}
-use Rattle.session_model.specs.Step.{notes_to, performed, replies_to, step}
-use Rattle.session_model.specs.Thresholds.{notes_at, notes_of_place, notes_over, passed_in}
-use Rattle.session_model.proofs.Counted.{places_stay}
-use Rattle.session_model.proofs.Sets.{each_at, step_has}
-use Rattle.session_model.proofs.CountsInTurns.{last-append}
-use Rattle.call_laws.specs.History.{CallReply, OccAfter, Thread, begun, history, placed_after, taken, taken_by}
-use Rattle.call_laws.specs.Passings.{NotesAreThePassings, note_of, notes_of_call, notes_of_occ, notes_of_run, notes_of_set, passing_indexes, passings}
-use Rattle.call_laws.specs.SetCalls.{runs_now, set_now}
-use Rattle.call_laws.specs.Values.{window}
 use Rattle.call_laws.proofs.Follows.{running}
 use Rattle.call_laws.proofs.Passed.{next, noted_is, passed_here, window-next}
 use Rattle.call_laws.proofs.Replied.{quiet_refused, quiet_reply, said}

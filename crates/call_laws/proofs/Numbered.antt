@@ -1,15 +1,7 @@
 -- The lines that read the counters, by the numbers of their readings.
-use Rattle.std.proofs.Common.{◌≡◌, ◌+◌, ◌≤◌, ℕ, zero, suc, Bool, true, false, List, [], ◌∷◌, ◌++◌, filter, length, refl, sym, ◌∙◌, ap, ap₂}
-use Rattle.std.proofs.Common.{subst, arith, append_assoc, append-nil, Some, slice_get, slice_index_or}
-use Rattle.std.specs.Prelude.{if◌then◌else◌}
-use Rattle.papi_base.specs.Streams.{Coming}
-use Rattle.papi_base.specs.declared.native.EventRef.{EventRef}
-use Rattle.postfix_rules.specs.Presets.{Book}
-use Rattle.region_report.specs.Lines.{is_reading}
-use Rattle.region_report.specs.declared.regions.RegionLine.{RegionLine}
-use Rattle.call_laws.specs.Nesting.{before_reading, reading_line}
-use Rattle.call_laws.specs.Positions.{asked_in}
-use Rattle.call_laws.specs.Readings.{reading_after, readings_after}
+use Rattle.call_laws.proofs.Words.{◌≡◌, ◌+◌, ◌≤◌, ℕ, zero, suc, Bool, true, false, List, [], ◌∷◌, ◌++◌, filter, length, refl, sym, ◌∙◌, ap, ap₂}
+use Rattle.call_laws.proofs.Words.{subst, arith, append_assoc, append-nil, Some, slice_get, slice_index_or, if◌then◌else◌, Coming, EventRef, Book}
+use Rattle.call_laws.proofs.Words.{is_reading, RegionLine, before_reading, reading_line, asked_in, reading_after, readings_after}
 
 -- how many of the lines read the counters
 abbrev pub readings : List RegionLine → ℕ

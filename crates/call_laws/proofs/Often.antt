@@ -1,34 +1,16 @@
 -- How many notes there are of an event.
-use Rattle.std.proofs.Common.{rules}
-use Rattle.std.proofs.lemmas.Bool.Decides.{nat_tests}
-use Rattle.std.proofs.Common.{◌≡◌, ◌≢◌, ℕ, zero, suc, ◌+◌, ◌/◌, ◌<◌, ◌≤◌, inl, inr, Bool, true, false, List, [], ◌∷◌, ◌++◌, length, drop, map, refl, sym, ap, subst, ◌∙◌, arith, Option, Some, None, slice_get}
+use Rattle.call_laws.proofs.Words.{rules, nat_tests, ◌≡◌, ◌≢◌, ℕ, zero, suc, ◌+◌, ◌/◌, ◌<◌, ◌≤◌, inl, inr, Bool, true, false, List, [], ◌∷◌, ◌++◌}
+use Rattle.call_laws.proofs.Words.{length, drop, map, refl, sym, ap, subst, ◌∙◌, arith, Option, Some, None, slice_get, flat_map, range_with_len}
+use Rattle.call_laws.proofs.Words.{option_and_then, option_map_or, add-mul, div-mul-le_self, lt-div-mul-add, zero-add, zero-div, div_below, le-div}
+use Rattle.call_laws.proofs.Words.{both_ways, cases_lt, eq-eqb, le-ltb, lt-ltb, ne_eqb, eqb_tells, flat_map_single, All-cons, All-drop, All-head}
+use Rattle.call_laws.proofs.Words.{All-nil, All-tail, All-take, filter-append, sum_by-append, LARGEST_AMOUNT, LEAST_THRESHOLD, MOST_SETS, EventRef}
+use Rattle.call_laws.proofs.Words.{Native, Occ, weight_of, weight_of-le, Note, Book, lead, AtRest, Call, CallReply, OccAfter, Thread, answered, makes}
+use Rattle.call_laws.proofs.Words.{newly_taken, placed_after, taken, taken_by, count_over, Moment, OneNoteForEach, first_native, is_note_of, moment}
+use Rattle.call_laws.proofs.Words.{note_of, notes_of_call, notes_of_occ, notes_of_run, notes_of_set, passes, passings_since, reaches_more}
+use Rattle.call_laws.proofs.Words.{threshold_at, changed, holds_after, is_zeroing, runs_now, set_now, zeroes, window}
 use Rattle.std.specs.Prelude.{◌&&◌, All, filter, if◌then◌else◌, nat_lt}
-use Rattle.std.specs.List.{flat_map, range_with_len}
-use Rattle.std.specs.Option.{option_and_then, option_map_or}
-use Rattle.std.proofs.Math.Nat.{add-mul, div-mul-le_self, lt-div-mul-add, zero-add, zero-div}
-use Rattle.std.proofs.lemmas.Nat.{div_below, le-div}
-use Rattle.std.proofs.lemmas.Bool.{both_ways, cases_lt, eq-eqb, le-ltb, lt-ltb, ne_eqb}
-use Rattle.std.proofs.lemmas.Bool.Decides.{eqb_tells}
 use Rattle.std.proofs.lemmas.List.{append-nil, append_assoc, length-append, map-append}
-use Rattle.std.proofs.lemmas.List.Concat.{flat_map_single}
-use Rattle.std.proofs.lemmas.List.Elements.{All-cons, All-drop, All-head, All-nil, All-tail, All-take, filter-append}
-use Rattle.std.proofs.lemmas.List.Sums.{sum_by-append}
-use Rattle.papi_base.specs.declared.limits.TheConstants.{LARGEST_AMOUNT, LEAST_THRESHOLD, MOST_SETS}
-use Rattle.papi_base.specs.declared.native.EventRef.{EventRef}
-use Rattle.papi_base.specs.declared.native.Native.{Native}
-use Rattle.papi_base.specs.declared.occurrence.Occ.{Occ}
-use Rattle.papi_base.specs.Weight.{weight_of}
-use Rattle.papi_base.proofs.Weights.{weight_of-le}
-use Rattle.overflow_dispatch.specs.declared.handler.Note.{Note}
-use Rattle.postfix_rules.specs.Presets.{Book, lead}
-use Rattle.event_sets.specs.AtRest.{AtRest}
-use Rattle.session_model.specs.CallTypes.{Call}
 use Rattle.call_type.specs.declared.call.Call.TheVariants as call
-use Rattle.call_laws.specs.History.{CallReply, OccAfter, Thread, answered, makes, newly_taken, placed_after, taken, taken_by}
-use Rattle.call_laws.specs.Measures.{count_over}
-use Rattle.call_laws.specs.Passings.{Moment, OneNoteForEach, first_native, is_note_of, moment, note_of, notes_of_call, notes_of_occ, notes_of_run, notes_of_set, passes, passings_since, reaches_more, threshold_at}
-use Rattle.call_laws.specs.SetCalls.{changed, holds_after, is_zeroing, runs_now, set_now, zeroes}
-use Rattle.call_laws.specs.Values.{window}
 use Rattle.call_laws.proofs.Armed.{is_armed}
 use Rattle.call_laws.proofs.Histories.{set_now-changed, set_now-other, window-running, window-stays, window-zeroing, zeroes-changed}
 

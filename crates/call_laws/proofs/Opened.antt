@@ -1,31 +1,12 @@
 -- The calls with which a thread begins, and its account after them: its set has the events and counts from the first occurrence on.
-use Rattle.std.proofs.Common.{◌≡◌, ◌≢◌, ◌+◌, ◌-◌, ◌<◌, ◌≤◌, ◌==◌, ℕ, zero, suc, Bool, true, false, not, List, [], ◌∷◌, ◌++◌, map, drop, take, length}
-use Rattle.std.proofs.Common.{replicate, pos, refl, sym, ◌∙◌, ap, ap₂, subst, arith, append_assoc, append-nil, Option, Some, None, Ok}
-use Rattle.std.specs.Prelude.{if◌then◌else◌}
-use Rattle.std.specs.Option.{option_map}
-use Rattle.std.specs.List.{flat_map, list_any, range_with_len}
-use Rattle.std.proofs.lemmas.Bool.Decides.{nat_tests}
-use Rattle.papi_base.specs.Streams.{Mark}
-use Rattle.papi_base.specs.declared.code.Code.TheVariants.{Ecount, Einval, Eisrun}
-use Rattle.papi_base.specs.declared.limits.TheConstants.{MOST_SETS}
-use Rattle.papi_base.specs.declared.native.EventRef.{EventRef}
-use Rattle.papi_base.specs.declared.occurrence.Occ.{Occ}
-use Rattle.postfix_rules.specs.Presets.{Book}
-use Rattle.event_sets.specs.Adding.{add_refusal}
-use Rattle.event_sets.specs.AtRest.{AtRest, Widths, cannot_take, clash_with, is_full, new_set, with_event}
-use Rattle.event_sets.specs.declared.refusal.Clash.{Clash}
-use Rattle.event_sets.specs.declared.refusal.Refusal.TheVariants.{Plain, Conflict}
-use Rattle.region_report.specs.Calls.{has_lines}
-use Rattle.region_report.specs.declared.regions.RegionLine.{RegionLine}
-use Rattle.session_model.specs.CallTypes.{Call}
+use Rattle.call_laws.proofs.Words.{◌≡◌, ◌≢◌, ◌+◌, ◌-◌, ◌<◌, ◌≤◌, ◌==◌, ℕ, zero, suc, Bool, true, false, not, List, [], ◌∷◌, ◌++◌, map, drop, take}
+use Rattle.call_laws.proofs.Words.{length, replicate, pos, refl, sym, ◌∙◌, ap, ap₂, subst, arith, append_assoc, append-nil, Option, Some, None, Ok}
+use Rattle.call_laws.proofs.Words.{if◌then◌else◌, option_map, flat_map, list_any, range_with_len, nat_tests, Mark, Ecount, Einval, Eisrun, MOST_SETS}
+use Rattle.call_laws.proofs.Words.{EventRef, Occ, Book, add_refusal, AtRest, Widths, cannot_take, clash_with, is_full, new_set, with_event, Clash}
+use Rattle.call_laws.proofs.Words.{Plain, Conflict, has_lines, RegionLine, Call, Line, Account, Kept, opening, component_runs, faces_of, runs_on}
+use Rattle.call_laws.proofs.Words.{conflict_row, first_of, has_events, row, account_after, account_refusal, performed, step, unless, calls_asked}
+use Rattle.call_laws.proofs.Words.{calls_at, TakesAll, line_of, opening_calls, opening_lines}
 use Rattle.call_type.specs.declared.call.Call.TheVariants as call
-use Rattle.session_model.specs.declared.line.Line.{Line}
-use Rattle.session_model.specs.Account.{Account, Kept, opening}
-use Rattle.session_model.specs.Faces.{component_runs, faces_of, runs_on}
-use Rattle.session_model.specs.Refusals.{conflict_row, first_of, has_events, row}
-use Rattle.session_model.specs.Step.{account_after, account_refusal, performed, step, unless}
-use Rattle.session_model.specs.World.{calls_asked, calls_at}
-use Rattle.call_laws.specs.Readings.{TakesAll, line_of, opening_calls, opening_lines}
 
 -- ---- which calls of the openings are a thread's
 

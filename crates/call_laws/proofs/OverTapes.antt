@@ -1,19 +1,9 @@
 -- The laws of threads and regions over streams of any bytes.
-use Rattle.std.proofs.Common.{◌≡◌, ◌≤◌, ℕ, List, ◌++◌, length, sym, ap₂, subst, ◌∙◌, Some}
+use Rattle.call_laws.proofs.Words.{◌≡◌, ◌≤◌, ℕ, List, ◌++◌, length, sym, ap₂, subst, ◌∙◌, Some, take-append-drop, All-weaker, Tape, LARGEST_AMOUNT}
+use Rattle.call_laws.proofs.Words.{Call, Kept, IsWithin, Rises, at, counts_per_tick, one_group_counts, each_at, rises-front, Thread, answered, taken}
+use Rattle.call_laws.proofs.Words.{NativesAreExactOverTape, OneGroupOverTape, OneNoteOverTape, PastRises, StreamStays, TurnsCountPerTick, account_of}
+use Rattle.call_laws.proofs.Words.{said, thread_over}
 use Rattle.std.specs.Prelude.{All}
-use Rattle.std.proofs.lemmas.List.{take-append-drop}
-use Rattle.std.proofs.lemmas.List.Elements.{All-weaker}
-use Rattle.papi_base.specs.Outside.{Tape}
-use Rattle.papi_base.specs.declared.limits.TheConstants.{LARGEST_AMOUNT}
-use Rattle.session_model.specs.CallTypes.{Call}
-use Rattle.session_model.specs.Account.{Kept}
-use Rattle.session_model.specs.Bounds.{IsWithin, Rises}
-use Rattle.session_model.specs.Faces.{at}
-use Rattle.session_model.proofs.CountsInTurns.{counts_per_tick, one_group_counts}
-use Rattle.session_model.proofs.Sets.{each_at}
-use Rattle.session_model.proofs.Within.{rises-front}
-use Rattle.call_laws.specs.History.{Thread, answered, taken}
-use Rattle.call_laws.specs.Tapes.{NativesAreExactOverTape, OneGroupOverTape, OneNoteOverTape, PastRises, StreamStays, TurnsCountPerTick, account_of, said, thread_over}
 use Rattle.call_laws.proofs.Bounded.{natives_are_exact}
 use Rattle.call_laws.proofs.Given.{amounts_fit, said_rises}
 use Rattle.call_laws.proofs.Often.{one_for_each}

@@ -1,16 +1,8 @@
 -- What a script of several threads replies and tells, by each thread's own calls.
-use Rattle.std.proofs.Common.{◌≡◌, ◌<◌, ℕ, zero, suc, List, [], ◌∷◌, ap, ◌∙◌, slice_get, take, Some}
-use Rattle.std.specs.Option.{option_map}
-use Rattle.papi_base.specs.Streams.{Coming}
-use Rattle.papi_base.specs.declared.limits.TheConstants.{THREADS}
-use Rattle.session_model.specs.Account.{Account}
-use Rattle.session_model.specs.Step.{account_after, step}
-use Rattle.session_model.specs.World.{LineTold, Setting, World, account_at, calls_at, opening_world, told, turn_of, world_after, world_after_line}
-use Rattle.session_model.specs.declared.line.Line.{Line}
-use Rattle.session_model.proofs.ByThread.{account_by_thread, found, notes_by_thread, opens_by_thread}
-use Rattle.call_laws.specs.History.{begun}
-use Rattle.call_laws.specs.OfThreads.{NotesAreOfThreads, RepliesAreOfThreads, thread_in}
-use Rattle.call_laws.specs.Readings.{line_of}
+use Rattle.call_laws.proofs.Words.{◌≡◌, ◌<◌, ℕ, zero, suc, List, [], ◌∷◌, ap, ◌∙◌, slice_get, take, Some, option_map, Coming, THREADS, Account}
+use Rattle.call_laws.proofs.Words.{account_after, step, LineTold, Setting, World, account_at, calls_at, opening_world, told, turn_of, world_after}
+use Rattle.call_laws.proofs.Words.{world_after_line, Line, account_by_thread, found, notes_by_thread, opens_by_thread, begun, NotesAreOfThreads}
+use Rattle.call_laws.proofs.Words.{RepliesAreOfThreads, thread_in, line_of}
 use Rattle.call_laws.proofs.Noted.{notes_are}
 
 -- what is told of a line, in the world after those before it

@@ -1,24 +1,10 @@
 -- What the model notes of sets at an occurrence is what the law does.
-use Rattle.std.proofs.lemmas.Bool.Decides.{nat_tests}
-use Rattle.std.proofs.Common.{◌≡◌, ℕ, zero, suc, ◌+◌, ◌/◌, ◌≤◌, Bool, true, false, List, [], ◌∷◌, ◌++◌, length, refl, sym, ap, ap₂, subst, ◌∙◌, arith, Option, Some, None, slice_get}
+use Rattle.call_laws.proofs.Words.{nat_tests, ◌≡◌, ℕ, zero, suc, ◌+◌, ◌/◌, ◌≤◌, Bool, true, false, List, [], ◌∷◌, ◌++◌, length, refl, sym, ap, ap₂}
+use Rattle.call_laws.proofs.Words.{subst, ◌∙◌, arith, Option, Some, None, slice_get, flat_map, range_with_len, option_and_then, option_map_or, lt-ltb}
+use Rattle.call_laws.proofs.Words.{drop-append-le, EventRef, Native, Occ, weight_of, Note, Book, lead, Kept, last_after, in_window, at, OccAfter}
+use Rattle.call_laws.proofs.Words.{placed_after, count_over, Moment, passing_indexes, reaches_more}
 use Rattle.std.specs.Prelude.{◌&&◌, filter, if◌then◌else◌, nat_lt, slice_index_or}
-use Rattle.std.specs.List.{flat_map, range_with_len}
-use Rattle.std.specs.Option.{option_and_then, option_map_or}
-use Rattle.std.proofs.lemmas.Bool.{lt-ltb}
-use Rattle.std.proofs.lemmas.List.{drop-append-le}
-use Rattle.papi_base.specs.declared.native.EventRef.{EventRef}
-use Rattle.papi_base.specs.declared.native.Native.{Native}
-use Rattle.papi_base.specs.declared.occurrence.Occ.{Occ}
-use Rattle.papi_base.specs.Weight.{weight_of}
-use Rattle.overflow_dispatch.specs.declared.handler.Note.{Note}
-use Rattle.postfix_rules.specs.Presets.{Book, lead}
-use Rattle.session_model.specs.Account.{Kept, last_after}
-use Rattle.session_model.specs.Counts.{in_window}
-use Rattle.session_model.specs.Faces.{at}
 use Rattle.session_model.specs.Thresholds.{notes_at, notes_of_place, passed_from, passes as model_passes}
-use Rattle.call_laws.specs.History.{OccAfter, placed_after}
-use Rattle.call_laws.specs.Measures.{count_over}
-use Rattle.call_laws.specs.Passings.{Moment, passing_indexes, reaches_more}
 use Rattle.call_laws.proofs.Windows.{length-placed, weighed_is}
 
 -- ---- one more occurrence

@@ -1,9 +1,6 @@
 -- Sets under their numbers, if one is changed or put anew; and tests of a number.
-use Rattle.std.proofs.Common.{◌≡◌, ◌≢◌, ℕ, zero, suc, true, false, List, [], ◌∷◌, refl, ap, arith, slice_set, Option, Some, None}
-use Rattle.std.specs.Option.{option_map}
-use Rattle.std.proofs.lemmas.Bool.{eq-eqb, ne_eqb}
-use Rattle.session_model.specs.Faces.{at, change, free}
-use Rattle.call_laws.specs.History.{is_number}
+use Rattle.call_laws.proofs.Words.{◌≡◌, ◌≢◌, ℕ, zero, suc, true, false, List, [], ◌∷◌, refl, ap, arith, slice_set, Option, Some, None, option_map}
+use Rattle.call_laws.proofs.Words.{eq-eqb, ne_eqb, at, change, free, is_number}
 
 pub at-change_same : {X : Type 0} (f : X → X) (places : List (Option X)) (k : ℕ) → at (change f places k) k ≡ option_map f (at places k)
 at-change_same f [] k = refl

@@ -1,22 +1,9 @@
 -- A refused call leaves all as it was, but for the mentioned codes.
-use Rattle.std.proofs.Common.{arith}
-use Rattle.std.proofs.lemmas.Bool.Decides.{nat_tests}
-use Rattle.std.proofs.Common.{◌≡◌, ℕ, zero, suc, ◌+◌, Bool, true, false, not, cond, List, [], ◌∷◌, ◌++◌, filter, refl, sym, ap, ◌∙◌, slice_get, slice_set, unwrap_or, Some}
-use Rattle.std.specs.Prelude.{if◌then◌else◌}
-use Rattle.std.specs.List.{list_any, position_or_len}
-use Rattle.std.proofs.Math.Bool.{and-false}
-use Rattle.papi_base.specs.declared.native.Native.{Native}
-use Rattle.papi_base.proofs.Steps.{get_front}
-use Rattle.postfix_rules.specs.NativeCodes.{native_code, native_named}
-use Rattle.postfix_rules.specs.Presets.{Book}
-use Rattle.postfix_rules.specs.Sameness.{among, joined_by, same_native}
-use Rattle.event_sets.specs.AtRest.{Widths}
-use Rattle.session_model.specs.CallTypes.{Call}
-use Rattle.session_model.specs.declared.line.Line.{Line}
-use Rattle.session_model.specs.Account.{Account}
-use Rattle.session_model.specs.Step.{account_after, notes_to, performed, replies_to, step}
-use Rattle.session_model.specs.World.{Setting, World, mentions_of, world_after, world_after_line}
-use Rattle.call_laws.specs.Refusing.{CodesStay, NamesStay, RefusedLineStays, SameAccount, SameNotes, SameReplies, is_refusal, without_refused}
+use Rattle.call_laws.proofs.Words.{arith, nat_tests, ◌≡◌, ℕ, zero, suc, ◌+◌, Bool, true, false, not, cond, List, [], ◌∷◌, ◌++◌, filter, refl, sym, ap}
+use Rattle.call_laws.proofs.Words.{◌∙◌, slice_get, slice_set, unwrap_or, Some, if◌then◌else◌, list_any, position_or_len, and-false, Native, get_front}
+use Rattle.call_laws.proofs.Words.{native_code, native_named, Book, among, joined_by, same_native, Widths, Call, Line, Account, account_after}
+use Rattle.call_laws.proofs.Words.{notes_to, performed, replies_to, step, Setting, World, mentions_of, world_after, world_after_line, CodesStay}
+use Rattle.call_laws.proofs.Words.{NamesStay, RefusedLineStays, SameAccount, SameNotes, SameReplies, is_refusal, without_refused}
 
 -- ---- one call
 

@@ -1,25 +1,10 @@
 -- What the replies of the model show: a call that is carried out has PAPI_OK, and a call that is refused has not.
-use Rattle.std.proofs.lemmas.Bool.Decides.{nat_tests}
-use Rattle.std.proofs.Common.{◌≡◌, ◌≢◌, ℕ, Bool, true, false, List, [], ◌∷◌, refl, arith, Option, Some, None, slice_get}
-use Rattle.std.specs.Option.{option_map_or}
-use Rattle.std.proofs.Math.Bool.{and-false}
-use Rattle.postfix_rules.specs.Presets.{Book}
-use Rattle.event_sets.specs.declared.refusal.Clash.{Clash}
-use Rattle.event_sets.specs.declared.refusal.Refusal.{Refusal}
-use Rattle.event_sets.specs.AtRest.{Widths}
-use Rattle.session_model.specs.CallTypes.{Call}
+use Rattle.call_laws.proofs.Words.{nat_tests, ◌≡◌, ◌≢◌, ℕ, Bool, true, false, List, [], ◌∷◌, refl, arith, Option, Some, None, slice_get}
+use Rattle.call_laws.proofs.Words.{option_map_or, and-false, Book, Clash, Refusal, Widths, Call, Body, Reply, Account, Kept, Face, faces_of}
+use Rattle.call_laws.proofs.Words.{conflict_of, first_of, rows, Sight, refused, reply_over, account_refusal, row_fails, CallReply, is_ok, makes}
+use Rattle.call_laws.proofs.Words.{set_made, taken_by, changed, set_of_call}
 use Rattle.call_type.specs.declared.call.Call.TheVariants as call
-use Rattle.session_model.specs.declared.reply.Body.{Body}
 use Rattle.session_model.specs.declared.reply.Body.TheVariants as body
-use Rattle.session_model.specs.declared.reply.Reply.{Reply}
-use Rattle.session_model.specs.Account.{Account, Kept}
-use Rattle.session_model.specs.Faces.{Face, faces_of}
-use Rattle.session_model.specs.Refusals.{conflict_of, first_of, rows}
-use Rattle.session_model.specs.Replies.{Sight, refused, reply_over}
-use Rattle.session_model.specs.Step.{account_refusal}
-use Rattle.session_model.proofs.Sets.{row_fails}
-use Rattle.call_laws.specs.History.{CallReply, is_ok, makes, set_made, taken_by}
-use Rattle.call_laws.specs.SetCalls.{changed, set_of_call}
 use Rattle.call_laws.proofs.Places.{is_number-other, is_number-same}
 
 -- ---- a call and its reply

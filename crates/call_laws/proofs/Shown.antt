@@ -1,23 +1,9 @@
 -- What calls reply of the values of a set.
-use Rattle.std.proofs.Common.{arith}
-use Rattle.std.proofs.lemmas.Bool.Decides.{nat_tests}
-use Rattle.std.proofs.Common.{◌≡◌, ℕ, ℤ, true, false, List, length, refl, ap, ◌∙◌, slice_get, Some}
-use Rattle.std.specs.Option.{option_map_or}
-use Rattle.postfix_rules.specs.Presets.{Book}
-use Rattle.event_sets.specs.AtRest.{Widths}
-use Rattle.session_model.specs.CallTypes.{Call}
+use Rattle.call_laws.proofs.Words.{arith, nat_tests, ◌≡◌, ℕ, ℤ, true, false, List, length, refl, ap, ◌∙◌, slice_get, Some, option_map_or, Book}
+use Rattle.call_laws.proofs.Words.{Widths, Call, Account, Kept, IsWithin, each_at, at, faces_of, is_absent, rows, done, account_after, performed}
+use Rattle.call_laws.proofs.Words.{step, accumulated, values_of, Thread, answered, begun, is_ok, AccumShows, ReadShows, StopShows, sums_now}
 use Rattle.call_type.specs.declared.call.Call.TheVariants as call
 use Rattle.session_model.specs.declared.reply.Body.TheVariants as body
-use Rattle.session_model.specs.Account.{Account, Kept}
-use Rattle.session_model.specs.Bounds.{IsWithin}
-use Rattle.session_model.proofs.Sets.{each_at}
-use Rattle.session_model.specs.Faces.{at, faces_of, is_absent}
-use Rattle.session_model.specs.Refusals.{rows}
-use Rattle.session_model.specs.Replies.{done}
-use Rattle.session_model.specs.Step.{account_after, performed, step}
-use Rattle.session_model.specs.Values.{accumulated, values_of}
-use Rattle.call_laws.specs.History.{Thread, answered, begun, is_ok}
-use Rattle.call_laws.specs.Values.{AccumShows, ReadShows, StopShows, sums_now}
 use Rattle.call_laws.proofs.Follows.{SetFollows, values_follow}
 use Rattle.call_laws.proofs.Replied.{NoneOk, first_not_ok}
 use Rattle.call_laws.proofs.Steps.{present, thread_follows}

@@ -1,20 +1,9 @@
 -- The differences of the readings are what the regions count by positions: by induction on the lines.
-use Rattle.std.proofs.Common.{◌≡◌, ◌+◌, ◌≤◌, ℕ, zero, suc, ℤ, Bool, true, false, List, [], ◌∷◌, ◌++◌, All, FitsSigned, refl, sym, ◌∙◌, ap, ap₂, subst, arith, append_assoc, slice_index_or}
-use Rattle.std.specs.Prelude.{if◌then◌else◌}
-use Rattle.std.specs.Int.{w64}
-use Rattle.std.proofs.lemmas.List.Elements.{All-head, All-nil, All-tail}
-use Rattle.papi_base.specs.Streams.{Coming}
-use Rattle.papi_base.specs.declared.native.EventRef.{EventRef}
-use Rattle.papi_base.specs.declared.occurrence.Occ.{Occ}
-use Rattle.postfix_rules.specs.Presets.{Book}
-use Rattle.region_report.specs.Lines.{is_reading}
-use Rattle.region_report.specs.Spans.{difference, span, spans_from}
-use Rattle.region_report.specs.declared.regions.RegionLine.{RegionLine}
-use Rattle.region_report.proofs.Counted.{reading, not_reading}
-use Rattle.call_laws.specs.Nesting.{AreBegun, IsBegun, before_reading}
-use Rattle.call_laws.specs.Positions.{asked_in, position, stream_of}
-use Rattle.call_laws.specs.Readings.{reading_after, readings_after}
-use Rattle.call_laws.specs.Spans.{AllFit, SpansByPosition, region_span, spans_after}
+use Rattle.call_laws.proofs.Words.{◌≡◌, ◌+◌, ◌≤◌, ℕ, zero, suc, ℤ, Bool, true, false, List, [], ◌∷◌, ◌++◌, All, FitsSigned, refl, sym, ◌∙◌, ap, ap₂}
+use Rattle.call_laws.proofs.Words.{subst, arith, append_assoc, slice_index_or, if◌then◌else◌, w64, All-head, All-nil, All-tail, Coming, EventRef, Occ}
+use Rattle.call_laws.proofs.Words.{Book, is_reading, difference, span, spans_from, RegionLine, reading, not_reading, AreBegun, IsBegun}
+use Rattle.call_laws.proofs.Words.{before_reading, asked_in, position, stream_of, reading_after, readings_after, AllFit, SpansByPosition, region_span}
+use Rattle.call_laws.proofs.Words.{spans_after}
 use Rattle.call_laws.proofs.Differences.{values_difference}
 use Rattle.call_laws.proofs.LinesRead.{reads_by_position}
 use Rattle.call_laws.proofs.Numbered.{asked_earlier, own_before, own_number, reading_of_number, readings, readings_more}

@@ -1,29 +1,12 @@
 -- Each call keeps an account that follows its history.
-use Rattle.std.proofs.Common.{arith}
-use Rattle.std.proofs.lemmas.Bool.Decides.{nat_tests}
-use Rattle.std.proofs.Common.{◌≡◌, ◌≢◌, ℕ, zero, suc, false, List, [], ◌∷◌, length, refl, sym, ap, ◌∙◌, slice_get, Option, Some, None, Err}
+use Rattle.call_laws.proofs.Words.{arith, nat_tests, ◌≡◌, ◌≢◌, ℕ, zero, suc, false, List, [], ◌∷◌, length, refl, sym, ap, ◌∙◌, slice_get, Option}
+use Rattle.call_laws.proofs.Words.{Some, None, Err, both_ways, option_map, option_map_or, MOST_SETS, Occ, Book, Refusal, Widths, Call, Reply, Account}
+use Rattle.call_laws.proofs.Words.{Kept, AllWithin, changed_at, kept_after, rows, refused, reply_over, sight_of_kept, account_after, account_refusal}
+use Rattle.call_laws.proofs.Words.{performed, replies_to, step, unless, at_map, row_fails, opening_within, within_stays, CallReply, Thread, answered}
+use Rattle.call_laws.proofs.Words.{begun, history, set_of_call}
 use Rattle.std.specs.Prelude.{replicate}
-use Rattle.std.proofs.lemmas.Bool.{both_ways}
-use Rattle.std.specs.Option.{option_map, option_map_or}
-use Rattle.papi_base.specs.declared.limits.TheConstants.{MOST_SETS}
-use Rattle.papi_base.specs.declared.occurrence.Occ.{Occ}
-use Rattle.postfix_rules.specs.Presets.{Book}
-use Rattle.event_sets.specs.declared.refusal.Refusal.{Refusal}
-use Rattle.event_sets.specs.AtRest.{Widths}
-use Rattle.session_model.specs.CallTypes.{Call}
 use Rattle.call_type.specs.declared.call.Call.TheVariants as call
-use Rattle.session_model.specs.declared.reply.Reply.{Reply}
-use Rattle.session_model.specs.Account.{Account, Kept}
-use Rattle.session_model.specs.Bounds.{AllWithin}
 use Rattle.session_model.specs.Faces.{at, change, face_of, faces_of, free, is_absent, runs as face_runs}
-use Rattle.session_model.specs.Changes.{changed_at, kept_after}
-use Rattle.session_model.specs.Refusals.{rows}
-use Rattle.session_model.specs.Replies.{refused, reply_over, sight_of_kept}
-use Rattle.session_model.specs.Step.{account_after, account_refusal, performed, replies_to, step, unless}
-use Rattle.session_model.proofs.Sets.{at_map, row_fails}
-use Rattle.session_model.proofs.Within.{opening_within, within_stays}
-use Rattle.call_laws.specs.History.{CallReply, Thread, answered, begun, history}
-use Rattle.call_laws.specs.SetCalls.{set_of_call}
 use Rattle.call_laws.proofs.Follows.{Follows, changed_follows, gone_follows, idle_follows, made_follows, ran_follows, running}
 use Rattle.call_laws.proofs.Places.{at-free, is_number-other, is_number-same}
 use Rattle.call_laws.proofs.Replied.{changes_none, ok_reply, quiet_makes, quiet_refused, quiet_reply, refused_changes, said, unknown_refused}

@@ -1,23 +1,13 @@
 -- Wrapped sums, one call after another.
-use Rattle.std.proofs.Common.{◌≡◌, ℕ, zero, suc, ◌%◌, ◌^◌, ◌<◌, ◌⊎◌, inl, inr, ℤ, pos, ◌+ℤ◌, true, false, List, [], ◌∷◌, map, refl, sym, ap, ap₂, ◌∙◌, arith, Option, Some}
+use Rattle.call_laws.proofs.Words.{◌≡◌, ℕ, zero, suc, ◌%◌, ◌^◌, ◌<◌, ◌⊎◌, inl, inr, ℤ, pos, ◌+ℤ◌, true, false, List, [], ◌∷◌, map, refl, sym, ap, ap₂}
+use Rattle.call_laws.proofs.Words.{◌∙◌, arith, Option, Some, cast_signed, cast_unsigned, int_wrap, int_wrapping_add, w64, Fits-of_z, add-mod-mod}
+use Rattle.call_laws.proofs.Words.{mod_below, SFits-int_wrap, int_wrap-add_left, int_wrap-add_right, ints, to_z-of_z, wrapping_add_is}
+use Rattle.call_laws.proofs.Words.{wrapping_add-bits, EventRef, Native, Rule, Operator, Book, event_value, natives_of_event, rule_of_event}
+use Rattle.call_laws.proofs.Words.{first_less_others, rule_value, Tree, Constant, Count, Node, pile_from, applied, divided, top_value, tree_value}
+use Rattle.call_laws.proofs.Words.{wrapped, sums, plus, wrapped_sums}
 use Rattle.std.specs.Prelude.{◌==◌, FitsSigned, int_div, replicate, slice_index_or, unsigned_abs, if◌then◌else◌}
-use Rattle.std.specs.Int.{cast_signed, cast_unsigned, int_wrap, int_wrapping_add, w64}
-use Rattle.std.proofs.Math.Facts.{Fits-of_z}
-use Rattle.std.proofs.Math.Nat.{add-mod-mod}
-use Rattle.std.proofs.lemmas.Nat.{mod_below}
-use Rattle.std.proofs.lemmas.Int.{SFits-int_wrap, int_wrap-add_left, int_wrap-add_right, ints, to_z-of_z, wrapping_add_is, wrapping_add-bits}
-use Rattle.papi_base.specs.declared.native.EventRef.{EventRef}
-use Rattle.papi_base.specs.declared.native.Native.{Native}
-use Rattle.postfix_rules.specs.declared.rule.Rule.{Rule}
 use Rattle.postfix_rules.specs.declared.rule.Rule.TheVariants as rule
-use Rattle.postfix_rules.specs.declared.token.Operator.{Operator}
 use Rattle.postfix_rules.specs.declared.token.Operator.TheVariants as op
-use Rattle.postfix_rules.specs.Presets.{Book, event_value, natives_of_event, rule_of_event}
-use Rattle.postfix_rules.specs.Rules.{first_less_others, rule_value}
-use Rattle.postfix_rules.specs.Trees.{Tree, Constant, Count, Node, pile_from}
-use Rattle.postfix_rules.specs.Values.{applied, divided, top_value, tree_value, wrapped}
-use Rattle.session_model.specs.Values.{sums}
-use Rattle.call_laws.specs.Values.{plus, wrapped_sums}
 
 -- A value that may be added: a natural number, or one of signed 64 bits.
 abbrev pub Addable : ℤ → Type 0

@@ -1,28 +1,13 @@
 -- A set is there exactly if the history says so.
-use Rattle.std.proofs.Common.{arith}
-use Rattle.std.proofs.Common.{◌≡◌, ◌≢◌, ℕ, zero, suc, inl, inr, false, List, [], ◌∷◌, refl, sym, ap, subst, ◌∙◌, slice_set, Option, Some, None}
+use Rattle.call_laws.proofs.Words.{arith, ◌≡◌, ◌≢◌, ℕ, zero, suc, inl, inr, false, List, [], ◌∷◌, refl, sym, ap, subst, ◌∙◌, slice_set, Option, Some}
+use Rattle.call_laws.proofs.Words.{None, list_all, eqb_tells, and-false, MOST_SETS, Book, Refusal, Widths, Call, Reply, Account, Kept, changed_at}
+use Rattle.call_laws.proofs.Words.{changed_by, kept_after, new_kept, sets_after, at, change, faces_of, free, rows, plain, refused, reply_over}
+use Rattle.call_laws.proofs.Words.{sight_of_kept, account_after, account_refusal, performed, replies_to, step, unless, performed_sets, row_fails}
+use Rattle.call_laws.proofs.Words.{is_there, set_destroyed, CallReply, Thread, answered, begun, history, is_number}
 use Rattle.std.specs.Prelude.{is_some, replicate}
-use Rattle.std.specs.List.{list_all}
-use Rattle.std.proofs.lemmas.Bool.Decides.{eqb_tells}
-use Rattle.std.proofs.Math.Bool.{and-false}
 use Rattle.papi_base.specs.declared.code.Code.TheVariants as code
-use Rattle.papi_base.specs.declared.limits.TheConstants.{MOST_SETS}
-use Rattle.postfix_rules.specs.Presets.{Book}
-use Rattle.event_sets.specs.declared.refusal.Refusal.{Refusal}
-use Rattle.event_sets.specs.AtRest.{Widths}
-use Rattle.session_model.specs.CallTypes.{Call}
 use Rattle.call_type.specs.declared.call.Call.TheVariants as call
 use Rattle.session_model.specs.declared.reply.Body.TheVariants as body
-use Rattle.session_model.specs.declared.reply.Reply.{Reply}
-use Rattle.session_model.specs.Account.{Account, Kept}
-use Rattle.session_model.specs.Changes.{changed_at, changed_by, kept_after, new_kept, sets_after}
-use Rattle.session_model.specs.Faces.{at, change, faces_of, free}
-use Rattle.session_model.specs.Refusals.{rows}
-use Rattle.session_model.specs.Replies.{plain, refused, reply_over, sight_of_kept}
-use Rattle.session_model.specs.Step.{account_after, account_refusal, performed, replies_to, step, unless}
-use Rattle.session_model.proofs.Sets.{performed_sets, row_fails}
-use Rattle.call_laws.specs.Conflicts.{is_there, set_destroyed}
-use Rattle.call_laws.specs.History.{CallReply, Thread, answered, begun, history, is_number}
 use Rattle.call_laws.proofs.Places.{at-put_none, at-put_other, is_number-other, is_number-same}
 use Rattle.call_laws.proofs.Replied.{IsQuiet, first_not_ok, quiet_makes, quiet_refused, quiet_reply, said}
 

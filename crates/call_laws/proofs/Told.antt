@@ -1,21 +1,9 @@
 -- What is told of lines and then of further ones, and of lines whose replies show no values.
-use Rattle.std.proofs.Common.{◌≡◌, ℕ, Bool, true, false, List, [], ◌∷◌, ◌++◌, map, refl, sym, ◌∙◌, ap, ap₂, append_assoc, Option, Some, None, Ok}
-use Rattle.std.specs.Prelude.{⊤, if◌then◌else◌}
-use Rattle.std.specs.List.{flat_map}
-use Rattle.papi_base.specs.declared.native.EventRef.{EventRef}
-use Rattle.postfix_rules.specs.Presets.{Book}
-use Rattle.event_sets.specs.AtRest.{Widths}
-use Rattle.event_sets.specs.declared.refusal.Refusal.{Refusal}
-use Rattle.region_report.specs.Calls.{has_lines}
-use Rattle.region_report.specs.declared.regions.RegionLine.{RegionLine}
-use Rattle.session_model.specs.CallTypes.{Call}
-use Rattle.event_sets.specs.declared.refusal.Refusal.TheVariants.{Plain}
+use Rattle.call_laws.proofs.Words.{◌≡◌, ℕ, Bool, true, false, List, [], ◌∷◌, ◌++◌, map, refl, sym, ◌∙◌, ap, ap₂, append_assoc, Option, Some, None, Ok}
+use Rattle.call_laws.proofs.Words.{⊤, if◌then◌else◌, flat_map, EventRef, Book, Widths, Refusal, has_lines, RegionLine, Call, Plain, Line, Account}
+use Rattle.call_laws.proofs.Words.{StepOutcome, account_refusal, performed, step, unless, Setting, World, account_at, told, turn_of, world_after}
+use Rattle.call_laws.proofs.Words.{world_after_line, line_of, opening_calls, opening_lines, readings_told, values_in}
 use Rattle.call_type.specs.declared.call.Call.TheVariants as call
-use Rattle.session_model.specs.declared.line.Line.{Line}
-use Rattle.session_model.specs.Account.{Account}
-use Rattle.session_model.specs.Step.{StepOutcome, account_refusal, performed, step, unless}
-use Rattle.session_model.specs.World.{Setting, World, account_at, told, turn_of, world_after, world_after_line}
-use Rattle.call_laws.specs.Readings.{line_of, opening_calls, opening_lines, readings_told, values_in}
 
 pub told_append : (at : Setting) (w : World) (xs ys : List Line)
     → readings_told (told at w (xs ++ ys)) ≡ readings_told (told at w xs) ++ readings_told (told at (world_after at w xs) ys)

@@ -1,13 +1,8 @@
 -- Occurrences with those before them, and the windows of sets over them.
-use Rattle.std.proofs.lemmas.Bool.Decides.{nat_tests}
-use Rattle.std.proofs.Common.{◌≡◌, ℕ, zero, suc, ◌+◌, ◌≤◌, true, false, List, [], ◌∷◌, ◌++◌, length, take, drop, map, refl, ap, arith, length-drop, Option, Some, None}
+use Rattle.call_laws.proofs.Words.{nat_tests, ◌≡◌, ℕ, zero, suc, ◌+◌, ◌≤◌, true, false, List, [], ◌∷◌, ◌++◌, length, take, drop, map, refl, ap, arith}
+use Rattle.call_laws.proofs.Words.{length-drop, Option, Some, None, drop-append-le, drop-map, drop_all, take_all, take-append-le, take-map, take-add}
+use Rattle.call_laws.proofs.Words.{Occ, Kept, last_after, zeroed, along, in_window, weighed, OccAfter, placed_after}
 use Rattle.std.specs.Prelude.{if◌then◌else◌, sum}
-use Rattle.std.proofs.lemmas.List.{drop-append-le, drop-map, drop_all, take_all, take-append-le, take-map}
-use Rattle.std.proofs.Math.Seq.{take-add}
-use Rattle.papi_base.specs.declared.occurrence.Occ.{Occ}
-use Rattle.session_model.specs.Account.{Kept, last_after, zeroed}
-use Rattle.session_model.specs.Counts.{along, in_window, weighed}
-use Rattle.call_laws.specs.History.{OccAfter, placed_after}
 
 pub placed-take : (before : Option Occ) (n : ℕ) (os : List Occ) → placed_after before (take n os) ≡ take n (placed_after before os)
 placed-take before zero os = refl

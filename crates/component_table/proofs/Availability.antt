@@ -1,16 +1,9 @@
 -- Exactly those presets are available whose texts name native events of one component.
-use Rattle.std.proofs.Common.{◌≡◌, ◌∙◌, ℕ, zero, suc, Bool, true, false, List, [], ◌∷◌, Option, Some, None, Result, Ok, Err, map, slice_get, option_map, unwrap_or, is_some, refl, sym, ap, ap₂}
-use Rattle.event_tables.specs.Tables.{ComponentText}
-use Rattle.name_encoder.specs.declared.fault.NameFault.{NameFault}
-use Rattle.name_encoder.specs.Names.{names}
-use Rattle.papi_base.specs.declared.native.Native.{Native}
-use Rattle.postfix_rules.specs.Presets.{entry}
-use Rattle.preset_csv.specs.Defs.{DefView}
-use Rattle.preset_csv.specs.declared.entry.Entry.{Entry}
+use Rattle.component_table.proofs.Words.{◌≡◌, ◌∙◌, ℕ, zero, suc, Bool, true, false, List, [], ◌∷◌, Option, Some, None, Result, Ok, Err, map}
+use Rattle.component_table.proofs.Words.{slice_get, option_map, unwrap_or, is_some, refl, sym, ap, ap₂, ComponentText, NameFault, names, Native}
+use Rattle.component_table.proofs.Words.{entry, DefView, Entry, Text, are_together, book_of, derived_by, derived_from, derived_if, is_available}
+use Rattle.component_table.proofs.Words.{natives_named, rule_of, with_first, Available, ExactlyAvailable, named}
 use Rattle.preset_csv.specs.declared.entry.Entry.TheVariants as row
-use Rattle.table_rows.specs.Texts.{Text}
-use Rattle.component_table.specs.Books.{are_together, book_of, derived_by, derived_from, derived_if, is_available, natives_named, rule_of, with_first}
-use Rattle.component_table.specs.Laws.{Available, ExactlyAvailable, named}
 use Rattle.component_table.proofs.Deriving.{all-together, together-all}
 use Rattle.component_table.proofs.Naming.{named_end}
 

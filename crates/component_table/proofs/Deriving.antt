@@ -1,24 +1,12 @@
 -- What computed presets derive keeps what derived events keep, and fits the unit.
-use Rattle.std.proofs.Common.{◌≡◌, ◌∙◌, ◌<◌, ℕ, zero, suc, Bool, true, false, List, [], ◌∷◌, ◌++◌, Option, Some, None, IfSome, All, length, get_or, refl, sym, subst, ap, arith}
+use Rattle.component_table.proofs.Words.{◌≡◌, ◌∙◌, ◌<◌, ℕ, zero, suc, Bool, true, false, List, [], ◌∷◌, ◌++◌, Option, Some, None, IfSome, All, length}
+use Rattle.component_table.proofs.Words.{get_or, refl, sym, subst, ap, arith, ForSome, eq-eqb, eqb-true, false_from_ne_true, AllPass-from_list_all}
+use Rattle.component_table.proofs.Words.{list_all-from_AllPass, All-append, BookFits, Fits, Widths, ComponentText, FitsShape, Native, Rule}
+use Rattle.component_table.proofs.Words.{FormulaView, Book, DerivedView, IsDerived, TakesCounts, DefView, FitsKind, IsDef, Kind, Text, are_together}
+use Rattle.component_table.proofs.Words.{derived_by, derived_if, derived_of, natives_named, rule_of}
 use Rattle.std.specs.Prelude.{◌==◌}
-use Rattle.std.specs.Option.{ForSome}
-use Rattle.std.proofs.lemmas.Bool.{eq-eqb, eqb-true, false_from_ne_true}
-use Rattle.std.proofs.lemmas.List.Sums.{AllPass-from_list_all, list_all-from_AllPass}
-use Rattle.std.proofs.lemmas.List.Elements.{All-append}
-use Rattle.postfix_rules.specs.Fitting.{BookFits, Fits, Widths}
-use Rattle.event_tables.specs.Tables.{ComponentText}
-use Rattle.name_encoder.specs.Names.{FitsShape}
-use Rattle.papi_base.specs.declared.native.Native.{Native}
-use Rattle.postfix_rules.specs.declared.rule.Rule.{Rule}
 use Rattle.postfix_rules.specs.declared.rule.Rule.TheVariants as rule
-use Rattle.postfix_rules.specs.Faults.{FormulaView}
-use Rattle.postfix_rules.specs.Presets.{Book}
-use Rattle.postfix_rules.specs.Rules.{DerivedView, IsDerived, TakesCounts}
-use Rattle.preset_csv.specs.Defs.{DefView, FitsKind, IsDef}
-use Rattle.preset_csv.specs.declared.kind.Kind.{Kind}
 use Rattle.preset_csv.specs.declared.kind.Kind.TheVariants as kind
-use Rattle.table_rows.specs.Texts.{Text}
-use Rattle.component_table.specs.Books.{are_together, derived_by, derived_if, derived_of, natives_named, rule_of}
 use Rattle.component_table.proofs.Naming.{natives-count}
 
 -- natives that are together are of one component

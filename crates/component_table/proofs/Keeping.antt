@@ -1,12 +1,8 @@
 -- A table of presets that loses the entries that are not available, row by row.
-use Rattle.std.proofs.Common.{◌≡◌, ◌∙◌, ◌<◌, ◌≤◌, ◌+◌, ℕ, true, false, List, [], ◌∷◌, ◌++◌, length, take, drop, get_or, set, refl, sym, ap, arith, append_assoc, length-set, if◌then◌else◌}
-use Rattle.std.proofs.lemmas.List.{append-nil, drop_all, drop_more, drop-set-lt, take_all, take_more, take_more_set}
-use Rattle.postfix_rules.specs.Presets.{Book}
-use Rattle.preset_csv.specs.Tables.{TableView}
-use Rattle.preset_csv.specs.declared.entry.Entry.{Entry}
+use Rattle.component_table.proofs.Words.{◌≡◌, ◌∙◌, ◌<◌, ◌≤◌, ◌+◌, ℕ, true, false, List, [], ◌∷◌, ◌++◌, length, take, drop, get_or, set, refl, sym, ap}
+use Rattle.component_table.proofs.Words.{arith, append_assoc, length-set, if◌then◌else◌, append-nil, drop_all, drop_more, drop-set-lt, take_all}
+use Rattle.component_table.proofs.Words.{take_more, take_more_set, Book, TableView, Entry, available_from, is_available, PRESETS}
 use Rattle.preset_csv.specs.declared.entry.Entry.TheVariants as row
-use Rattle.component_table.specs.Books.{available_from, is_available}
-use Rattle.preset_csv.specs.declared.symbols.TheConstants.{PRESETS}
 
 -- what a loop over the rows keeps: those before the next one are done
 pub record Cleared (book : Book) (presets : TableView) (r : ℕ) (now : TableView) : Type 0 where

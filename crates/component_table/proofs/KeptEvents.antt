@@ -1,23 +1,9 @@
 -- The user events that are available, and the tables that they make.
-use Rattle.std.proofs.Common.{◌≡◌, ◌∙◌, ◌≤◌, ◌+◌, ℕ, Bool, true, false, cond, List, [], ◌∷◌, ◌++◌, length, map, refl, string_bytes, sym, ap, arith, append_assoc}
-use Rattle.std.specs.Prelude.{not, position}
-use Rattle.std.specs.List.{position_or_len, AllByRecursion}
-use Rattle.std.specs.Str.{bytes_eq}
-use Rattle.std.proofs.lemmas.Bool.{cond_both}
-use Rattle.std.proofs.lemmas.List.{append-nil, length-map}
-use Rattle.postfix_rules.specs.Presets.{Book}
-use Rattle.preset_csv.specs.Tables.{IsTable, TableView, is_field}
-use Rattle.table_rows.specs.Texts.{Text}
-use Rattle.user_events.specs.Events.{Distinct, EventView, ExtendedView, IsEvent, IsExtended, names_of}
-use Rattle.user_events.specs.Names.{is_event_name}
-use Rattle.preset_csv.specs.declared.entry.Entry.{Entry}
-use Rattle.user_events.specs.Events.{event_view}
-use Rattle.user_events.specs.declared.event.UserEvent.{UserEvent}
-use Rattle.postfix_rules.specs.Fitting.{BookFits}
-use Rattle.event_tables.specs.Tables.{ComponentText, shape_of}
-use Rattle.component_table.specs.Books.{events_from, is_available, kept_if, rows_in}
-use Rattle.component_table.specs.Catalogs.{IsCatalog}
-use Rattle.preset_csv.specs.declared.symbols.TheConstants.{PRESETS}
+use Rattle.component_table.proofs.Words.{◌≡◌, ◌∙◌, ◌≤◌, ◌+◌, ℕ, Bool, true, false, cond, List, [], ◌∷◌, ◌++◌, length, map, refl, string_bytes, sym}
+use Rattle.component_table.proofs.Words.{ap, arith, append_assoc, not, position, position_or_len, AllByRecursion, bytes_eq, cond_both, append-nil}
+use Rattle.component_table.proofs.Words.{length-map, Book, IsTable, TableView, is_field, Text, Distinct, EventView, ExtendedView, IsEvent, IsExtended}
+use Rattle.component_table.proofs.Words.{names_of, is_event_name, Entry, event_view, UserEvent, BookFits, ComponentText, shape_of, events_from}
+use Rattle.component_table.proofs.Words.{is_available, kept_if, rows_in, IsCatalog, PRESETS}
 
 step : (book : Book) (r : ℕ) (e : EventView) (rest : List EventView) → events_from book r (e ∷ rest) ≡ kept_if (is_available book r) e ++ events_from book (r + 1) rest
 unfolding events_from

@@ -5,3 +5,4 @@ mod KeptEvents
 mod Mentions
 mod Naming
 pub mod RowCodes
+mod Words

@@ -1,17 +1,8 @@
 -- The natives mentioned and their codes, as an insertion-ordered set keeps them.
-use Rattle.std.proofs.Common.{◌≡◌, ◌∙◌, ◌+◌, ℕ, Bool, true, false, cond, eqb, List, [], ◌∷◌, ◌++◌, Option, Some, None}
+use Rattle.component_table.proofs.Words.{◌≡◌, ◌∙◌, ◌+◌, ℕ, Bool, true, false, cond, eqb, List, [], ◌∷◌, ◌++◌, Option, Some, None, list_any}
+use Rattle.component_table.proofs.Words.{position_or_len, ltb, eqb-true, cond_some, position_or_len_push, Native, eq-value, among, joined_by}
+use Rattle.component_table.proofs.Words.{same_native, native_code, natives_same, code_in}
 use Rattle.std.proofs.Common.{length, refl, sym, ap, arith, option_map, if◌then◌else◌, position, is_some}
-use Rattle.std.specs.List.{list_any, position_or_len}
-use Rattle.std.proofs.Math.Dec.{ltb}
-use Rattle.std.proofs.lemmas.Bool.{eqb-true}
-use Rattle.std.proofs.lemmas.Option.{cond_some}
-use Rattle.std.proofs.lemmas.List.Folds.{position_or_len_push}
-use Rattle.papi_base.specs.declared.native.Native.{Native}
-use Rattle.papi_base.specs.contracts.native.NativePartialEq.TheImpl.{eq-value}
-use Rattle.postfix_rules.specs.Sameness.{among, joined_by, same_native}
-use Rattle.postfix_rules.specs.NativeCodes.{native_code}
-use Rattle.postfix_rules.proofs.AllFields.{natives_same}
-use Rattle.component_table.specs.Codes.{code_in}
 
 -- ---- the derived test for equal native events is the test of all fields
 

@@ -1,12 +1,7 @@
 -- The native events that texts name, text by text.
-use Rattle.std.proofs.Common.{◌≡◌, ◌∙◌, ◌<◌, ◌≤◌, ◌+◌, ℕ, List, [], ◌∷◌, ◌++◌, Option, Some, None, Result, Ok, Err, length, drop, get_or, refl, sym, ap, arith, append_assoc, length-append}
-use Rattle.std.proofs.lemmas.List.{append-nil, drop_all, drop_more}
-use Rattle.event_tables.specs.Tables.{ComponentText}
-use Rattle.name_encoder.specs.declared.fault.NameFault.{NameFault}
-use Rattle.name_encoder.specs.Names.{names}
-use Rattle.papi_base.specs.declared.native.Native.{Native}
-use Rattle.table_rows.specs.Texts.{Text}
-use Rattle.component_table.specs.Books.{natives_named, with_first}
+use Rattle.component_table.proofs.Words.{◌≡◌, ◌∙◌, ◌<◌, ◌≤◌, ◌+◌, ℕ, List, [], ◌∷◌, ◌++◌, Option, Some, None, Result, Ok, Err, length, drop, get_or}
+use Rattle.component_table.proofs.Words.{refl, sym, ap, arith, append_assoc, length-append, append-nil, drop_all, drop_more, ComponentText, NameFault}
+use Rattle.component_table.proofs.Words.{names, Native, Text, natives_named, with_first}
 
 -- some natives before those that come, if these are named
 abbrev pub after : List Native → Option (List Native) → Option (List Native)

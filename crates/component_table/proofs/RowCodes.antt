@@ -1,13 +1,8 @@
 -- The codes of a catalog's rows.
-use Rattle.std.proofs.Common.{◌≡◌, ◌∙◌, ◌<◌, ◌≤◌, ◌==◌, ℕ, true, false, cond, None, Some, length, ap, arith, refl, get_or, slice_get}
-use Rattle.std.proofs.lemmas.Bool.{eq-eqb, le-ltb, lt-ltb, ne_eqb}
-use Rattle.std.proofs.lemmas.List.FromFn.{get_or-map-range_with_len, length-map-range_with_len}
-use Rattle.std.proofs.lemmas.List.Sums.{position_or_len_is}
-use Rattle.std.proofs.lemmas.Option.{slice_get_past, unwrap_or-slice_get}
-use Rattle.std.specs.List.{position_or_len}
+use Rattle.component_table.proofs.Words.{◌≡◌, ◌∙◌, ◌<◌, ◌≤◌, ◌==◌, ℕ, true, false, cond, None, Some, length, ap, arith, refl, get_or, slice_get}
+use Rattle.component_table.proofs.Words.{eq-eqb, le-ltb, lt-ltb, ne_eqb, get_or-map-range_with_len, length-map-range_with_len, position_or_len_is}
+use Rattle.component_table.proofs.Words.{slice_get_past, unwrap_or-slice_get, position_or_len, CatalogView, code_of_row, row_count, row_codes}
 use Rattle.std.specs.Prelude.{nat_lt, position, unwrap_or}
-use Rattle.component_table.specs.Catalogs.{CatalogView, code_of_row, row_count}
-use Rattle.component_table.specs.Codes.{row_codes}
 
 how_many : (c : CatalogView) → length (row_codes c) ≡ row_count c
 unfolding row_codes

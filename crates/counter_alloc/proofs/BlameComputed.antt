@@ -1,16 +1,9 @@
 -- The blame that is computed is the blame.
-use Rattle.std.proofs.Common.{◌≡◌, ℕ, zero, suc, ◌+◌, ◌^◌, ◌<◌, ◌≤◌, inl, inr, refl, sym, ap, ap₂, subst, ◌∙◌, arith, List, [], ◌∷◌}
-use Rattle.std.proofs.Common.{length, take, length-take-le, Bool, true, false, eqb, ltb, bit_and, Some}
-use Rattle.std.specs.Prelude.{find, count_ones, unwrap_or}
-use Rattle.std.specs.List.{range_with_len}
-use Rattle.std.proofs.lemmas.Bool.{cases_eq, cases_lt, eq-eqb, ne_eqb, lt-ltb, ltb-true}
-use Rattle.std.proofs.lemmas.Nat.Bits.{same_from_bits, bit_at_and, bit_at_ones, bit_at_ones_above, bit_at-lt}
-use Rattle.counter_alloc.specs.Assignments.{Has, Assignable, Deficient, IsShortestPrefix, counters_of}
-use Rattle.counter_alloc.specs.Listing.{assigns}
-use Rattle.counter_alloc.specs.BlameOf.{shortest_prefix, deficient_sets, in_each_set, blame_of}
-use Rattle.counter_alloc.specs.Masks.{AreMasks}
-use Rattle.counter_alloc.specs.Laws.{ComputesBlame}
-use Rattle.counter_alloc.specs.declared.matching.Blame.{Blame}
+use Rattle.counter_alloc.proofs.Words.{◌≡◌, ℕ, zero, suc, ◌+◌, ◌^◌, ◌<◌, ◌≤◌, inl, inr, refl, sym, ap, ap₂, subst, ◌∙◌, arith, List, [], ◌∷◌, length}
+use Rattle.counter_alloc.proofs.Words.{take, length-take-le, Bool, true, false, eqb, ltb, bit_and, Some, find, count_ones, unwrap_or, range_with_len}
+use Rattle.counter_alloc.proofs.Words.{cases_eq, cases_lt, eq-eqb, ne_eqb, lt-ltb, ltb-true, same_from_bits, bit_at_and, bit_at_ones}
+use Rattle.counter_alloc.proofs.Words.{bit_at_ones_above, bit_at-lt, Has, Assignable, Deficient, IsShortestPrefix, counters_of, assigns}
+use Rattle.counter_alloc.proofs.Words.{shortest_prefix, deficient_sets, in_each_set, blame_of, AreMasks, ComputesBlame, Blame}
 use Rattle.counter_alloc.proofs.Sets.{cases_has}
 use Rattle.counter_alloc.proofs.Listed.{In, in_range, in_filter, of_filter, of_listed, assignable_listed}
 use Rattle.std.proofs.lemmas.List.{get_or-take}

@@ -1,13 +1,8 @@
 -- The assignment that comes first, place by place.
-use Rattle.std.proofs.Common.{◌≡◌, ◌≢◌, ℕ, ◌+◌, ◌^◌, ◌<◌, ◌≤◌, inl, inr, refl, sym, ap, subst, ◌∙◌, arith, List, length, get_or, set, get_or-set_same, get_or-set_other, length-set}
-use Rattle.std.proofs.lemmas.List.{set-set}
+use Rattle.counter_alloc.proofs.Words.{◌≡◌, ◌≢◌, ℕ, ◌+◌, ◌^◌, ◌<◌, ◌≤◌, inl, inr, refl, sym, ap, subst, ◌∙◌, arith, List, length, get_or, set}
+use Rattle.counter_alloc.proofs.Words.{get_or-set_same, get_or-set_other, length-set, set-set, cases_eq, cases_lt, bit_at-pow_same, bit_at-pow_other}
+use Rattle.counter_alloc.proofs.Words.{pow-lt, Has, IsAssignment, Assignable, IsLeastDeficient, Settles, AreMasks}
 use Rattle.counter_alloc.proofs.Sets.{has_below}
-use Rattle.std.proofs.lemmas.Bool.{cases_eq, cases_lt}
-use Rattle.std.proofs.lemmas.Nat.Bits.{bit_at-pow_same, bit_at-pow_other}
-use Rattle.std.proofs.Math.Pow.{pow-lt}
-use Rattle.counter_alloc.specs.Assignments.{Has, IsAssignment, Assignable, IsLeastDeficient}
-use Rattle.counter_alloc.specs.Settling.{Settles}
-use Rattle.counter_alloc.specs.Masks.{AreMasks}
 use Rattle.counter_alloc.proofs.Hall.{deficient_not_assignable}
 
 -- the only member of a set of one

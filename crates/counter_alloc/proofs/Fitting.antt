@@ -1,13 +1,7 @@
 -- What the test on a list of masks says, and masks that are appended.
-use Rattle.std.proofs.Common.{◌≡◌, ℕ, zero, suc, ◌<◌, ◌≤◌, ◌^◌, inl, inr, true, false, List, [], ◌∷◌, ◌++◌, get_or, refl, sym, arith}
-use Rattle.std.specs.Prelude.{Result, Ok, Err, is_ok, OnOk, OnErr}
-use Rattle.std.proofs.Math.Pow.{pow_mono}
-use Rattle.std.specs.Int.{w32, bit_at, trailing_zeros}
-use Rattle.std.proofs.lemmas.Bool.{cases_Bool}
-use Rattle.std.proofs.lemmas.Nat.Bits.{bit_at-trailing_zeros}
-use Rattle.counter_alloc.specs.Assignments.{Assignable}
-use Rattle.counter_alloc.specs.Listing.{is_assignable}
-use Rattle.counter_alloc.specs.Masks.{AreMasks}
+use Rattle.counter_alloc.proofs.Words.{◌≡◌, ℕ, zero, suc, ◌<◌, ◌≤◌, ◌^◌, inl, inr, true, false, List, [], ◌∷◌, ◌++◌, get_or, refl, sym, arith, Result}
+use Rattle.counter_alloc.proofs.Words.{Ok, Err, is_ok, OnOk, OnErr, pow_mono, w32, bit_at, trailing_zeros, cases_Bool, bit_at-trailing_zeros}
+use Rattle.counter_alloc.proofs.Words.{Assignable, is_assignable, AreMasks}
 use Rattle.counter_alloc.proofs.Listed.{lists_some}
 
 -- the test says yes of a list that has an assignment

@@ -1,10 +1,6 @@
 -- If the counters do not suffice: a deficient set rules an assignment out, and a set closed under the counters' holders lies in each.
-use Rattle.std.proofs.Common.{◌≡◌, ◌≢◌, ℕ, ◌+◌, ◌^◌, ◌<◌, ◌≤◌, inl, inr, refl, sym, ap, ◌∙◌, arith, List, length, get_or}
-use Rattle.std.proofs.lemmas.Nat.Bits.{bit_at-lt}
-use Rattle.std.specs.Int.{bit_at}
-use Rattle.counter_alloc.specs.Assignments.{Has, Assignable, Deficient, counters_of}
-use Rattle.counter_alloc.specs.Masks.{AreMasks}
-use Rattle.counter_alloc.specs.Search.{Holds}
+use Rattle.counter_alloc.proofs.Words.{◌≡◌, ◌≢◌, ℕ, ◌+◌, ◌^◌, ◌<◌, ◌≤◌, inl, inr, refl, sym, ap, ◌∙◌, arith, List, length, get_or, bit_at-lt, bit_at}
+use Rattle.counter_alloc.proofs.Words.{Has, Assignable, Deficient, counters_of, AreMasks, Holds}
 use Rattle.counter_alloc.proofs.Sizes.{size, without, without_other, without_lt, without_apart, size_without, pigeons, ones_size}
 use Rattle.counter_alloc.proofs.Sets.{cases_has, has_below, counters_of_has, counters_from_below}
 

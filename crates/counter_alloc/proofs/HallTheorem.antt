@@ -1,14 +1,9 @@
 -- Hall's theorem for one more place: a list of which all places but the last have counters has an assignment or a least
 -- deficient set. The search for an alternating path, on lists.
-use Rattle.std.proofs.Common.{◌≡◌, ◌≢◌, ℕ, zero, suc, ◌+◌, ◌^◌, ◌<◌, ◌≤◌, ◌⊎◌, ◌↔◌, inl, inr, refl, sym, ap, subst, ◌∙◌, arith, add-one}
-use Rattle.std.proofs.Common.{List, [], ◌∷◌, ◌++◌, length, get_or, set, bit_or, replicate}
-use Rattle.std.proofs.lemmas.Bool.{cases_eq, cases_lt}
-use Rattle.std.proofs.lemmas.List.{length_push, get_or_append_left}
-use Rattle.std.proofs.lemmas.Nat.Bits.{bit_at_or, bit_at-lt, bit_at-pow_same, bit_at-pow_other}
-use Rattle.counter_alloc.specs.Assignments.{Has, IsAssignment, Assignable, IsLeastDeficient}
-use Rattle.counter_alloc.specs.Masks.{AreMasks}
-use Rattle.counter_alloc.specs.Search.{Holds, IsFree, IsTrail, CanWalk, Grows, Reaches, AreHeld}
-use Rattle.counter_alloc.specs.declared.augment.Trail.{Trail}
+use Rattle.counter_alloc.proofs.Words.{◌≡◌, ◌≢◌, ℕ, zero, suc, ◌+◌, ◌^◌, ◌<◌, ◌≤◌, ◌⊎◌, ◌↔◌, inl, inr, refl, sym, ap, subst, ◌∙◌, arith, add-one}
+use Rattle.counter_alloc.proofs.Words.{List, [], ◌∷◌, ◌++◌, length, get_or, set, bit_or, replicate, cases_eq, cases_lt, length_push}
+use Rattle.counter_alloc.proofs.Words.{get_or_append_left, bit_at_or, bit_at-lt, bit_at-pow_same, bit_at-pow_other, Has, IsAssignment, Assignable}
+use Rattle.counter_alloc.proofs.Words.{IsLeastDeficient, AreMasks, Holds, IsFree, IsTrail, CanWalk, Grows, Reaches, AreHeld, Trail}
 use Rattle.counter_alloc.proofs.Sets.{cases_has, has_or_right}
 use Rattle.counter_alloc.proofs.Trails.{Visited, can_walk, closed_trail, held_place, trail_begun, visit_known, visit_reach, visit_skip}
 use Rattle.counter_alloc.proofs.Walk.{walk_end, walk_step}

@@ -1,12 +1,7 @@
 -- The blame of a list without an assignment is the least deficient set of its shortest prefix without one.
-use Rattle.std.proofs.Common.{◌≡◌, ℕ, zero, suc, ◌≤◌, ◌⊎◌, inl, inr, refl, sym, ap, subst, ◌∙◌, arith, add-one, List, [], ◌∷◌, ◌++◌, length, get_or, take, length-take-le, take-take}
-use Rattle.std.proofs.lemmas.List.{take_more, take_all}
-use Rattle.counter_alloc.specs.Assignments.{Assignable, IsLeastDeficient, IsShortestPrefix, counters_of}
-use Rattle.counter_alloc.specs.Blames.{IsBlame}
-use Rattle.counter_alloc.specs.BlameOf.{shortest_prefix, blame_of}
-use Rattle.counter_alloc.specs.Masks.{AreMasks}
-use Rattle.counter_alloc.specs.Laws.{IsLeastSet, LeastSet}
-use Rattle.counter_alloc.specs.declared.matching.Blame.{Blame}
+use Rattle.counter_alloc.proofs.Words.{◌≡◌, ℕ, zero, suc, ◌≤◌, ◌⊎◌, inl, inr, refl, sym, ap, subst, ◌∙◌, arith, add-one, List, [], ◌∷◌, ◌++◌, length}
+use Rattle.counter_alloc.proofs.Words.{get_or, take, length-take-le, take-take, take_more, take_all, Assignable, IsLeastDeficient, IsShortestPrefix}
+use Rattle.counter_alloc.proofs.Words.{counters_of, IsBlame, shortest_prefix, blame_of, AreMasks, IsLeastSet, LeastSet, Blame}
 use Rattle.counter_alloc.proofs.BlameComputed.{computes_blame, prefix_found, prefix_masks}
 use Rattle.counter_alloc.proofs.Fitting.{not_assignable_of}
 use Rattle.counter_alloc.proofs.Hall.{deficient_not_assignable}

@@ -13,3 +13,4 @@ pub mod Fitting
 pub mod BlameLaws
 pub mod BlameComputed
 pub mod LeastSet
+pub mod Words

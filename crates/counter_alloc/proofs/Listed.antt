@@ -1,14 +1,10 @@
 -- The list of all assignments has exactly these, in increasing order, and the least is its first.
-use Rattle.std.proofs.Common.{◌≡◌, ℕ, zero, suc, ◌+◌, ◌^◌, ◌<◌, ◌≤◌, ◌⊎◌, inl, inr, refl, sym, ap, subst, ◌∙◌, arith, List, [], ◌∷◌, ◌++◌, map, length, get_or, Bool, true, false, eqb, Some, slice_get}
-use Rattle.std.specs.Prelude.{filter, is_some, Contains}
-use Rattle.std.specs.List.{flat_map, list_any, range_with_len}
-use Rattle.std.proofs.lemmas.Bool.{cases_eq, cases_Bool, eqb-true, eqb-false, eq-eqb, ne_eqb, and_parts, and_from, or_parts, or_from, not-true, not_from_false}
-use Rattle.std.specs.Int.{bit_at}
-use Rattle.counter_alloc.specs.Assignments.{Has, IsAssignment, Assignable, IsLeast, AtOrBefore}
-use Rattle.counter_alloc.specs.Listing.{members, choices, all_distinct, assigns, least, IsBefore}
+use Rattle.counter_alloc.proofs.Words.{◌≡◌, ℕ, zero, suc, ◌+◌, ◌^◌, ◌<◌, ◌≤◌, ◌⊎◌, inl, inr, refl, sym, ap, subst, ◌∙◌, arith, List, [], ◌∷◌, ◌++◌}
+use Rattle.counter_alloc.proofs.Words.{map, length, get_or, Bool, true, false, eqb, Some, slice_get, filter, is_some, Contains, flat_map, list_any}
+use Rattle.counter_alloc.proofs.Words.{range_with_len, cases_eq, cases_Bool, eqb-true, eqb-false, eq-eqb, ne_eqb, and_parts, and_from, or_parts}
+use Rattle.counter_alloc.proofs.Words.{or_from, not-true, not_from_false, bit_at, Has, IsAssignment, Assignable, IsLeast, AtOrBefore, members}
+use Rattle.counter_alloc.proofs.Words.{choices, all_distinct, assigns, least, IsBefore, AreMasks, ListsEach, ListsInOrder, ListsSome, OneLeast}
 use Rattle.counter_alloc.proofs.Sets.{has_below}
-use Rattle.counter_alloc.specs.Masks.{AreMasks}
-use Rattle.counter_alloc.specs.Laws.{ListsEach, ListsInOrder, ListsSome, OneLeast}
 
 -- x is an item of the list
 abbrev pub In : {X : Type 0} → X → List X → Type 0

@@ -1,14 +1,9 @@
 -- Assignments of prefixes, and the blame of a list whose last place cannot be added.
-use Rattle.std.proofs.Common.{◌≡◌, ℕ, ◌+◌, ◌^◌, ◌<◌, ◌≤◌, inl, inr, sym, ap, subst, ◌∙◌, arith, List, [], ◌∷◌, ◌++◌, length, get_or, take, drop, set, length-take-le, get_or-take}
-use Rattle.std.proofs.lemmas.Bool.{cases_lt}
-use Rattle.std.proofs.lemmas.List.{take_all, take-append-le, length_push, get_or_append_left, get_or_push, take_more_set, take_more, append_assoc, take-append-drop}
-use Rattle.std.proofs.Math.Pow.{pow_mono}
-use Rattle.counter_alloc.specs.Assignments.{IsAssignment, Assignable, Deficient, IsLeastDeficient, counters_of}
-use Rattle.counter_alloc.specs.Matchings.{IsMatching}
-use Rattle.counter_alloc.specs.Blames.{IsBlame}
-use Rattle.counter_alloc.specs.declared.matching.Blame.{Blame}
+use Rattle.counter_alloc.proofs.Words.{◌≡◌, ℕ, ◌+◌, ◌^◌, ◌<◌, ◌≤◌, inl, inr, sym, ap, subst, ◌∙◌, arith, List, [], ◌∷◌, ◌++◌, length, get_or, take}
+use Rattle.counter_alloc.proofs.Words.{drop, set, length-take-le, get_or-take, cases_lt, take_all, take-append-le, length_push, get_or_append_left}
+use Rattle.counter_alloc.proofs.Words.{get_or_push, take_more_set, take_more, append_assoc, take-append-drop, pow_mono, IsAssignment, Assignable}
+use Rattle.counter_alloc.proofs.Words.{Deficient, IsLeastDeficient, counters_of, IsMatching, IsBlame, Blame, AreMasks}
 use Rattle.counter_alloc.proofs.Sets.{has_below}
-use Rattle.counter_alloc.specs.Masks.{AreMasks}
 use Rattle.counter_alloc.proofs.Hall.{deficient_not_assignable}
 
 -- the places of a prefix keep their counters

@@ -1,10 +1,6 @@
 -- A place taken out of the lists, the later ones moved down.
-use Rattle.std.proofs.Common.{◌≡◌, ℕ, ◌+◌, ◌-◌, ◌<◌, ◌≤◌, inl, inr, sym, ap, ◌∙◌, arith, List, length, get_or, take, length-take-le, get_or-take}
-use Rattle.std.specs.Prelude.{remove}
-use Rattle.std.proofs.lemmas.Bool.{cases_lt}
-use Rattle.std.proofs.lemmas.List.{ext_get_or}
-use Rattle.std.proofs.lemmas.List.Edits.{length-remove, get_or-remove_below, get_or-remove_above}
-use Rattle.counter_alloc.specs.Matchings.{IsMatching}
+use Rattle.counter_alloc.proofs.Words.{◌≡◌, ℕ, ◌+◌, ◌-◌, ◌<◌, ◌≤◌, inl, inr, sym, ap, ◌∙◌, arith, List, length, get_or, take, length-take-le}
+use Rattle.counter_alloc.proofs.Words.{get_or-take, remove, cases_lt, ext_get_or, length-remove, get_or-remove_below, get_or-remove_above, IsMatching}
 
 -- the items after the place, below this index, have moved down by one
 pub record Closing (old new : List ℕ) (place upto : ℕ) : Type 0 where

@@ -1,15 +1,9 @@
 -- A trail that is begun, that grows, and that ends closed.
-use Rattle.std.proofs.Common.{◌≡◌, ◌≢◌, ℕ, zero, suc, ◌+◌, ◌^◌, ◌<◌, ◌≤◌, ◌↔◌, inl, inr, refl, sym, ap, subst, ◌∙◌, arith, List, length, get_or, get_or-set_same, get_or-set_other, length-set}
-use Rattle.std.proofs.lemmas.Bool.{cases_eq}
-use Rattle.std.proofs.lemmas.Nat.Bits.{bit_at-lt}
-use Rattle.std.specs.Int.{bit_at}
-use Rattle.std.specs.Prelude.{count_ones}
-use Rattle.counter_alloc.specs.Assignments.{Has, Deficient, IsLeastDeficient, counters_of}
-use Rattle.counter_alloc.specs.Search.{Holds, IsTrail, IsFree, CanWalk, Grows, Reaches, AreHeld}
-use Rattle.counter_alloc.specs.declared.augment.Trail.{Trail}
+use Rattle.counter_alloc.proofs.Words.{◌≡◌, ◌≢◌, ℕ, zero, suc, ◌+◌, ◌^◌, ◌<◌, ◌≤◌, ◌↔◌, inl, inr, refl, sym, ap, subst, ◌∙◌, arith, List, length}
+use Rattle.counter_alloc.proofs.Words.{get_or, get_or-set_same, get_or-set_other, length-set, cases_eq, bit_at-lt, bit_at, count_ones, Has, Deficient}
+use Rattle.counter_alloc.proofs.Words.{IsLeastDeficient, counters_of, Holds, IsTrail, IsFree, CanWalk, Grows, Reaches, AreHeld, Trail, AreMasks}
 use Rattle.counter_alloc.proofs.Sizes.{size, without, without_other, size_without, pigeons, ones_size}
 use Rattle.counter_alloc.proofs.Sets.{below_from_bits, counters_of_member, counters_from_below}
-use Rattle.counter_alloc.specs.Masks.{AreMasks}
 use Rattle.counter_alloc.proofs.Hall.{hole_in_each, holder_in_each}
 
 size_ones : (n : ℕ) → size (λ _. 1) n ≡ n

@@ -1,13 +1,7 @@
 -- A register and its bank are functions of the count.
-use Rattle.std.proofs.Common.{◌≡◌, ℕ, ◌+◌, ◌-◌, ◌*◌, ◌/◌, ◌%◌, ◌^◌, ◌<◌, ◌≤◌, true, false, ◌⊎◌, inl, inr, ap, ap₂, sym, ◌∙◌, arith}
-use Rattle.std.proofs.lemmas.Bool.{cases_lt, cond-true, cond-false, le-leb, lt-leb, lt-ltb, le-ltb}
-use Rattle.std.proofs.Math.Nat.{mod-eq_of_lt}
-use Rattle.std.proofs.lemmas.Nat.{div-add-mod'}
-use Rattle.papi_base.specs.declared.native.Native.{Native}
-use Rattle.papi_base.specs.declared.bits.Domain.{Domain}
-use Rattle.counter_unit.specs.declared.registers.Register.{Register}
-use Rattle.counter_unit.specs.Counting.{IsThreshold, period, begun, beginning, carries, register_at, whole, wrapped}
-use Rattle.counter_unit.specs.Laws.{Added}
+use Rattle.counter_unit.proofs.Words.{◌≡◌, ℕ, ◌+◌, ◌-◌, ◌*◌, ◌/◌, ◌%◌, ◌^◌, ◌<◌, ◌≤◌, true, false, ◌⊎◌, inl, inr, ap, ap₂, sym, ◌∙◌, arith, cases_lt}
+use Rattle.counter_unit.proofs.Words.{cond-true, cond-false, le-leb, lt-leb, lt-ltb, le-ltb, mod-eq_of_lt, div-add-mod', Native, Domain, Register}
+use Rattle.counter_unit.proofs.Words.{IsThreshold, period, begun, beginning, carries, register_at, whole, wrapped, Added}
 use Rattle.counter_unit.proofs.Places.{period_fits}
 use Rattle.counter_unit.proofs.Periods.{period_stays, period_over}
 

@@ -4,3 +4,4 @@ pub mod Bits
 pub mod Counts
 pub mod Tables
 pub mod Steps
+pub mod Words

@@ -1,16 +1,8 @@
 -- Places of registers, one by one and all together.
 use Rattle.std.proofs.Common.{sym, if◌then◌else◌, min, bit_or, ◌≡◌, ℕ, zero, suc, ◌+◌, ◌-◌, ◌^◌, ◌<◌, ◌≤◌, inl, inr, List, [], ◌∷◌, length, set, get_or, replicate, refl, ap, ◌∙◌, arith, Option, Some, None}
-use Rattle.std.specs.Prelude.{◌==◌}
-use Rattle.std.specs.Int.Bits.{or_zero_r}
-use Rattle.std.proofs.lemmas.Bool.{cases_eq, cond_both, cond-true, cond-false, eq-eqb, ne_eqb, leb-true, leb-false}
-use Rattle.papi_base.proofs.Weights.{weight_of-le}
-use Rattle.papi_base.specs.Weight.{weight_of}
-use Rattle.papi_base.specs.Widths.{AreWidths}
-use Rattle.std.proofs.lemmas.List.{length-set, length-replicate, get_or-set_same, get_or-set_other}
-use Rattle.std.proofs.Math.Pow.{pow_mono}
-use Rattle.papi_base.specs.declared.occurrence.Occ.{Occ}
-use Rattle.counter_unit.specs.declared.registers.Register.{Register}
-use Rattle.counter_unit.specs.Counting.{IsThreshold, period, beginning, at_place, FitsWidth, FitWidths, moved, carries, moved_place, all_moved}
+use Rattle.counter_unit.proofs.Words.{◌==◌, or_zero_r, cases_eq, cond_both, cond-true, cond-false, eq-eqb, ne_eqb, leb-true, leb-false, weight_of-le}
+use Rattle.counter_unit.proofs.Words.{weight_of, AreWidths, length-set, length-replicate, get_or-set_same, get_or-set_other, pow_mono, Occ, Register}
+use Rattle.counter_unit.proofs.Words.{IsThreshold, period, beginning, at_place, FitsWidth, FitWidths, moved, carries, moved_place, all_moved}
 
 pub at_place-replicate : (n c : ℕ) → at_place (replicate n None) c ≡ None
 at_place-replicate zero c = refl

@@ -1,21 +1,14 @@
 -- An occurrence goes over the counters that it can move, lowest first: those that are left are as they were, and all others are
 -- done. A counter that it cannot move is done from the beginning.
-use Rattle.std.proofs.Common.{◌≡◌, ℕ, zero, suc, ◌+◌, ◌*◌, ◌%◌, ◌^◌, ◌<◌, ◌≤◌, ◌⊎◌, inl, inr, Bool, true, false, List, [], ◌∷◌, length, set, get_or, refl, ap, sym, ◌∙◌, arith, Option, Some, None, bit_and}
-use Rattle.std.specs.Prelude.{min, nat_le, ◌==◌, ◌&&◌, ◌||◌, not, if◌then◌else◌}
-use Rattle.std.specs.Int.{bit_at, bit_not, trailing_zeros, w32}
-use Rattle.std.proofs.lemmas.Bool.{cases_eq, cases_lt, cond-false, eq-eqb, lt-leb, ne_eqb}
-use Rattle.std.proofs.lemmas.List.{get_or_past, get_or-set_same, get_or-set_other, length-set, ext_get_or}
-use Rattle.std.proofs.Math.Arith.{lt_of_le-ne}
-use Rattle.std.proofs.Math.Nat.{lt_of_le_of_lt}
-use Rattle.std.proofs.lemmas.Nat.{and_le_l}
-use Rattle.std.proofs.lemmas.Nat.Bits.{bit_at-lt, bit_at-suc, bit_at-zero, bit_at_above, bit_at_and, bit_at_clear_same, bit_at_clear_other, bit_at-trailing_zeros, same_from_bits}
-use Rattle.papi_base.specs.Weight.{differ, weight_of, holds, share}
-use Rattle.papi_base.specs.declared.occurrence.Occ.{Occ}
-use Rattle.counter_unit.specs.declared.registers.Register.{Register}
+use Rattle.counter_unit.proofs.Words.{◌≡◌, ℕ, zero, suc, ◌+◌, ◌*◌, ◌%◌, ◌^◌, ◌<◌, ◌≤◌, ◌⊎◌, inl, inr, Bool, true, false, List, [], ◌∷◌, length, set}
+use Rattle.counter_unit.proofs.Words.{get_or, refl, ap, sym, ◌∙◌, arith, Option, Some, None, bit_and, min, nat_le, ◌==◌, ◌&&◌, ◌||◌, not}
+use Rattle.counter_unit.proofs.Words.{if◌then◌else◌, bit_at, bit_not, trailing_zeros, w32, cases_eq, cases_lt, cond-false, eq-eqb, lt-leb, ne_eqb}
+use Rattle.counter_unit.proofs.Words.{get_or_past, get_or-set_same, get_or-set_other, length-set, ext_get_or, lt_of_le-ne, lt_of_le_of_lt, and_le_l}
+use Rattle.counter_unit.proofs.Words.{bit_at-lt, bit_at-suc, bit_at-zero, bit_at_above, bit_at_and, bit_at_clear_same, bit_at_clear_other}
+use Rattle.counter_unit.proofs.Words.{bit_at-trailing_zeros, same_from_bits, differ, weight_of, holds, share, Occ, Register, After, FitsWidth}
+use Rattle.counter_unit.proofs.Words.{FitWidths, at_place, all_carries, all_moved, bits_of, carries, moved, moved_place, added, is_modified}
+use Rattle.counter_unit.proofs.Words.{weight_at, AreAdmitted, ArePlain, admits, bit_of, has_code}
 use Rattle.counter_unit.specs.declared.selects.Key.TheVariants as key
-use Rattle.counter_unit.specs.Counting.{After, FitsWidth, FitWidths, at_place, all_carries, all_moved, bits_of, carries, moved, moved_place}
-use Rattle.counter_unit.specs.Modes.{added, is_modified, weight_at}
-use Rattle.counter_unit.specs.Selects.{AreAdmitted, ArePlain, admits, bit_of, has_code}
 use Rattle.counter_unit.proofs.Bits.{bit_at-bits_of}
 use Rattle.counter_unit.proofs.Places.{at_place-all_moved, length-all_moved}
 use Rattle.counter_unit.proofs.Tables.{no_bit}

@@ -1,18 +1,10 @@
 -- The counters that occurrences with each code can move, as the registers change.
-use Rattle.std.proofs.Common.{◌≡◌, ℕ, ◌<◌, inl, inr, List, length, set, get_or, replicate, refl, ap, sym, ◌∙◌, arith, Option, Some, None, ◌%◌}
-use Rattle.std.specs.Int.{bit_at}
+use Rattle.counter_unit.proofs.Words.{◌≡◌, ℕ, ◌<◌, inl, inr, List, length, set, get_or, replicate, refl, ap, sym, ◌∙◌, arith, Option, Some, None, ◌%◌}
+use Rattle.counter_unit.proofs.Words.{bit_at, and_left, cases_eq, ne_eqb, length-replicate, get_or-replicate, get_or-set_same, get_or-set_other}
+use Rattle.counter_unit.proofs.Words.{bit_at-zero, Occ, Register, Key, Selects, all_moved, at_place, moved_place, is_modified, AreMarked, AreSelects}
+use Rattle.counter_unit.proofs.Words.{IsMarkedAt, IsRemarked, bit_of, has}
 use Rattle.std.specs.Prelude.{◌==◌, false}
-use Rattle.std.proofs.lemmas.Bool.{and_left, cases_eq, ne_eqb}
-use Rattle.std.proofs.lemmas.List.{length-replicate, get_or-replicate, get_or-set_same, get_or-set_other}
-use Rattle.std.proofs.lemmas.Nat.Bits.{bit_at-zero}
-use Rattle.papi_base.specs.declared.occurrence.Occ.{Occ}
-use Rattle.counter_unit.specs.declared.registers.Register.{Register}
-use Rattle.counter_unit.specs.declared.selects.Key.{Key}
 use Rattle.counter_unit.specs.declared.selects.Key.TheVariants as key
-use Rattle.counter_unit.specs.declared.selects.Selects.{Selects}
-use Rattle.counter_unit.specs.Counting.{all_moved, at_place, moved_place}
-use Rattle.counter_unit.specs.Modes.{is_modified}
-use Rattle.counter_unit.specs.Selects.{AreMarked, AreSelects, IsMarkedAt, IsRemarked, bit_of, has}
 use Rattle.counter_unit.proofs.Places.{at_place-all_moved, at_place-replicate}
 
 pub no_bit : (n : ℕ) → n ≡ 1 → n ≡ 0 → ⊥

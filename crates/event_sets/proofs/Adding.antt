@@ -1,29 +1,11 @@
 -- An event that is added to a set.
-use Rattle.std.proofs.Common.{◌≡◌, ◌⊎◌, inl, inr, ℕ, ◌<◌, ◌≤◌, ◌^◌, Bool, true, false, ◌||◌, ◌==◌, List, [], ◌∷◌, ◌++◌, length, take, drop}
-use Rattle.std.proofs.Common.{refl, ap, ap₂, sym, subst, ◌∙◌, arith, slice_get, Option, Some, None, length-append, get_or}
-use Rattle.std.specs.Prelude.{All, find, is_some, if◌then◌else◌, nat_le, nat_lt}
-use Rattle.std.specs.Option.{option_map}
-use Rattle.std.proofs.lemmas.Bool.{lt-ltb, le-ltb}
-use Rattle.std.proofs.lemmas.Bool.Decides.{nat_tests}
-use Rattle.std.proofs.lemmas.List.{take-append-drop}
-use Rattle.std.proofs.lemmas.List.Elements.{All-append, All-push}
-use Rattle.papi_base.specs.declared.native.Native.{Native}
-use Rattle.papi_base.specs.declared.native.EventRef.{EventRef}
-use Rattle.papi_base.specs.declared.code.Code.TheVariants.{Ecount}
-use Rattle.counter_alloc.specs.Assignments.{Assignable}
-use Rattle.counter_alloc.specs.Masks.{masks_of}
-use Rattle.counter_alloc.specs.Matchings.{MatchingView}
-use Rattle.postfix_rules.specs.Presets.{Book, component_of_event, natives_of_event}
-use Rattle.postfix_rules.specs.Sameness.{joined_by}
-use Rattle.postfix_rules.proofs.Joined.{earlier_stay, one_more_joins}
-use Rattle.postfix_rules.proofs.Places.{get_pushed}
-use Rattle.event_sets.specs.declared.refusal.Clash.{Clash}
-use Rattle.event_sets.specs.declared.refusal.Refusal.TheVariants.{Plain, Conflict}
-use Rattle.event_sets.specs.Adding.{add_refusal}
-use Rattle.postfix_rules.specs.Fitting.{Fits, IsHeld}
-use Rattle.event_sets.specs.Assigning.{alone, clash_of}
-use Rattle.event_sets.specs.AtRest.{Widths, cannot_take, clash_with, has_event, is_full, is_other, natives_with, set_natives, widths_at, with_event}
-use Rattle.event_sets.specs.Sets.{IsMatched, IsSound, SetView, set_view}
+use Rattle.event_sets.proofs.Words.{◌≡◌, ◌⊎◌, inl, inr, ℕ, ◌<◌, ◌≤◌, ◌^◌, Bool, true, false, ◌||◌, ◌==◌, List, [], ◌∷◌, ◌++◌, length, take, drop}
+use Rattle.event_sets.proofs.Words.{refl, ap, ap₂, sym, subst, ◌∙◌, arith, slice_get, Option, Some, None, length-append, get_or, All, find, is_some}
+use Rattle.event_sets.proofs.Words.{if◌then◌else◌, nat_le, nat_lt, option_map, lt-ltb, le-ltb, nat_tests, take-append-drop, All-append, All-push}
+use Rattle.event_sets.proofs.Words.{Native, EventRef, Ecount, Assignable, masks_of, MatchingView, Book, component_of_event, natives_of_event}
+use Rattle.event_sets.proofs.Words.{joined_by, earlier_stay, one_more_joins, get_pushed, Clash, Plain, Conflict, add_refusal, Fits, IsHeld, alone}
+use Rattle.event_sets.proofs.Words.{clash_of, Widths, cannot_take, clash_with, has_event, is_full, is_other, natives_with, set_natives, widths_at}
+use Rattle.event_sets.proofs.Words.{with_event, IsMatched, IsSound, SetView, set_view}
 use Rattle.event_sets.proofs.Agreeing.{by_number, event_owned, found, not_other}
 use Rattle.event_sets.proofs.Kept.{no_natives}
 use Rattle.event_sets.proofs.JoinedNatives.{joined_all}

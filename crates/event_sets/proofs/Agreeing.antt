@@ -1,29 +1,15 @@
 -- The agreement of a set with the book is kept by its changes.
-use Rattle.std.proofs.Common.{◌≡◌, ◌≢◌, ◌⊎◌, inl, inr, ℕ, zero, suc, ◌+◌, Bool, true, false, ◌==◌, List, [], ◌∷◌}
-use Rattle.std.proofs.Common.{◌++◌, length, min, ◌-◌, take, drop, remove, refl, sym, ◌∙◌, ap, subst, arith, rules, slice_get}
-use Rattle.std.proofs.Common.{Option, Some, None, ◌<◌, IsSomeAnd, get_or, length-append, length-take, length-drop}
-use Rattle.std.proofs.Math.ListN.{length-set}
-use Rattle.std.specs.Prelude.{All, nat_lt}
-use Rattle.std.specs.Option.{option_map, option_map_or}
-use Rattle.std.specs.List.{list_any, position_or_len}
-use Rattle.std.proofs.lemmas.List.Elements.{All-nil, All-push}
-use Rattle.std.proofs.lemmas.Option.{slice_get_within, slice_get-get_or, get_or_from_slice_get}
-use Rattle.std.proofs.lemmas.Bool.Decides.{nat_tests}
-use Rattle.std.proofs.lemmas.Bool.{or_parts, or_right}
-use Rattle.papi_base.specs.declared.native.Native.{Native}
-use Rattle.papi_base.specs.declared.native.EventRef.{EventRef}
-use Rattle.postfix_rules.specs.Sameness.{joined_by, same_event}
-use Rattle.postfix_rules.specs.Presets.{Book, component_of_event, entry, lead, natives_after, natives_of, natives_of_event, rule_of_event}
-use Rattle.postfix_rules.specs.Rules.{DerivedView, IsDerived}
+use Rattle.event_sets.proofs.Words.{◌≡◌, ◌≢◌, ◌⊎◌, inl, inr, ℕ, zero, suc, ◌+◌, Bool, true, false, ◌==◌, List, [], ◌∷◌, ◌++◌, length, min, ◌-◌, take}
+use Rattle.event_sets.proofs.Words.{drop, remove, refl, sym, ◌∙◌, ap, subst, arith, rules, slice_get, Option, Some, None, ◌<◌, IsSomeAnd, get_or}
+use Rattle.event_sets.proofs.Words.{length-append, length-take, length-drop, length-set, All, nat_lt, option_map, option_map_or, list_any}
+use Rattle.event_sets.proofs.Words.{position_or_len, All-nil, All-push, slice_get_within, slice_get-get_or, get_or_from_slice_get, nat_tests}
+use Rattle.event_sets.proofs.Words.{or_parts, or_right, Native, EventRef, joined_by, same_event, Book, component_of_event, entry, lead, natives_after}
+use Rattle.event_sets.proofs.Words.{natives_of, natives_of_event, rule_of_event, DerivedView, IsDerived, has_event, is_other, place_of, is_plain}
+use Rattle.event_sets.proofs.Words.{armed_elsewhere, set_natives, shares_native, IsOwned, IsHeld, AddedAgrees, ArmedAgrees, AssignedAgrees}
+use Rattle.event_sets.proofs.Words.{EmptiedAgrees, HeldHaveNatives, NativesAreOwned, RemovedAgrees, event_is, event_self, native_self, get_pushed}
 use Rattle.papi_base.specs.declared.native.EventRef.TheVariants as event
-use Rattle.event_sets.specs.AtRest.{has_event, is_other, place_of, is_plain, armed_elsewhere, set_natives, shares_native}
-use Rattle.event_sets.specs.Agreement.{IsOwned}
-use Rattle.postfix_rules.specs.Fitting.{IsHeld}
-use Rattle.event_sets.specs.Laws.{AddedAgrees, ArmedAgrees, AssignedAgrees, EmptiedAgrees, HeldHaveNatives, NativesAreOwned, RemovedAgrees}
-use Rattle.postfix_rules.proofs.Equal.{event_is, event_self, native_self}
 use Rattle.event_sets.proofs.JoinedNatives.{joined_all}
 use Rattle.event_sets.proofs.Removing.{stood, stood_apart, get_removed, get_put}
-use Rattle.postfix_rules.proofs.Places.{get_pushed}
 
 -- a property of the items, by number
 pub by_number : {X : Type 0} (P : X → Type 0) (xs : List X) → ((i : ℕ) (x : X) → slice_get xs i ≡ Some x → P x) → All P xs

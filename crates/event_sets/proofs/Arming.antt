@@ -1,12 +1,7 @@
 -- Thresholds of events, one item more.
-use Rattle.std.proofs.Common.{◌≡◌, ℕ, ◌+◌, ◌<◌, ◌||◌, ◌&&◌, not, min, List, [], ◌∷◌, ◌++◌, length, take, drop, refl, ap, ap₂, sym, ◌∙◌, arith, slice_get, Some}
-use Rattle.std.specs.Prelude.{nat_lt}
-use Rattle.papi_base.specs.declared.native.Native.{Native}
-use Rattle.papi_base.specs.declared.native.EventRef.{EventRef}
-use Rattle.postfix_rules.specs.Presets.{Book}
-use Rattle.postfix_rules.specs.Sameness.{same_event}
-use Rattle.event_sets.specs.AtRest.{armed_elsewhere, leads, least_width}
-use Rattle.papi_base.proofs.Steps.{drop_at, take_at}
+use Rattle.event_sets.proofs.Words.{◌≡◌, ℕ, ◌+◌, ◌<◌, ◌||◌, ◌&&◌, not, min, List, [], ◌∷◌, ◌++◌, length, take, drop, refl, ap, ap₂, sym, ◌∙◌, arith}
+use Rattle.event_sets.proofs.Words.{slice_get, Some, nat_lt, Native, EventRef, Book, same_event, armed_elsewhere, leads, least_width, drop_at}
+use Rattle.event_sets.proofs.Words.{take_at}
 
 least_push : (ws : List ℕ) (w : ℕ) → 0 < length ws → least_width (ws ++ w ∷ []) ≡ min (least_width ws) w
 least_push [] w some = absurd (omega arith)

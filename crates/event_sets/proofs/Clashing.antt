@@ -1,21 +1,8 @@
 -- Native events that are given counters one after another.
-use Rattle.std.proofs.lemmas.Bool.Decides.{nat_tests}
-use Rattle.std.proofs.Common.{◌≡◌, ℕ, zero, suc, ◌+◌, ◌<◌, ◌≤◌, ◌^◌, true, false, ◌==◌, List, [], ◌∷◌, ◌++◌, take, drop, ap, sym, subst, ◌∙◌, arith, slice_get, Option, Some, None}
-use Rattle.std.specs.Prelude.{All}
-use Rattle.std.specs.Int.{bit_at}
-use Rattle.std.proofs.lemmas.List.{map-append, take-append-drop, append_assoc}
-use Rattle.papi_base.specs.declared.native.Native.{Native}
-use Rattle.counter_alloc.specs.Assignments.{Assignable}
-use Rattle.counter_alloc.specs.Blames.{IsBlame}
-use Rattle.counter_alloc.specs.Masks.{AreMasks, masks_of}
-use Rattle.counter_alloc.specs.declared.matching.Blame.{Blame}
-use Rattle.counter_alloc.proofs.BlameLaws.{blame_stays}
-use Rattle.counter_alloc.proofs.BlameComputed.{computes_blame}
-use Rattle.counter_alloc.proofs.Prefixes.{assignable_front}
-use Rattle.counter_alloc.proofs.Fitting.{is_assignable_true, is_assignable_false, mask_small}
-use Rattle.event_sets.specs.declared.refusal.Clash.{Clash}
-use Rattle.event_sets.specs.Assigning.{blamed_unless, clash_of, members_from}
-use Rattle.papi_base.proofs.Steps.{drop_at, take_at}
+use Rattle.event_sets.proofs.Words.{nat_tests, ◌≡◌, ℕ, zero, suc, ◌+◌, ◌<◌, ◌≤◌, ◌^◌, true, false, ◌==◌, List, [], ◌∷◌, ◌++◌, take, drop, ap, sym}
+use Rattle.event_sets.proofs.Words.{subst, ◌∙◌, arith, slice_get, Option, Some, None, All, bit_at, map-append, take-append-drop, append_assoc, Native}
+use Rattle.event_sets.proofs.Words.{Assignable, IsBlame, AreMasks, masks_of, Blame, blame_stays, computes_blame, assignable_front, is_assignable_true}
+use Rattle.event_sets.proofs.Words.{is_assignable_false, mask_small, Clash, blamed_unless, clash_of, members_from, drop_at, take_at}
 
 -- one place more
 pub masks_at : (natives : List Native) (i : ℕ) (n : Native) → slice_get natives i ≡ Some n → masks_of (take (i + 1) natives) ≡ masks_of (take i natives) ++ n.allowed ∷ []

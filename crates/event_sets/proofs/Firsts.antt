@@ -1,18 +1,7 @@
 -- Natives that join a list one by one are those of the whole list at their first mention.
-use Rattle.std.proofs.Common.{arith}
-use Rattle.std.proofs.lemmas.Bool.Decides.{nat_tests}
-use Rattle.std.proofs.Common.{◌≡◌, Bool, true, false, ◌||◌, ◌&&◌, not, List, [], ◌∷◌, ◌++◌, refl, sym, ap, ◌∙◌}
-use Rattle.std.specs.Prelude.{if◌then◌else◌}
-use Rattle.std.specs.List.{filter, flat_map}
-use Rattle.std.proofs.lemmas.List.Folds.{list_any-append}
-use Rattle.std.proofs.lemmas.List.{append-nil, append_assoc}
-use Rattle.papi_base.specs.declared.native.Native.{Native}
-use Rattle.papi_base.specs.declared.native.EventRef.{EventRef}
-use Rattle.postfix_rules.specs.Presets.{Book, natives_after, natives_of_event}
-use Rattle.postfix_rules.specs.Sameness.{among, joined_by, same_native}
-use Rattle.postfix_rules.proofs.Equal.{native_is}
-use Rattle.postfix_rules.proofs.Joined.{joined-append}
-use Rattle.event_sets.specs.Laws.{NativesAreFirsts, firsts}
+use Rattle.event_sets.proofs.Words.{arith, nat_tests, ◌≡◌, Bool, true, false, ◌||◌, ◌&&◌, not, List, [], ◌∷◌, ◌++◌, refl, sym, ap, ◌∙◌, if◌then◌else◌}
+use Rattle.event_sets.proofs.Words.{filter, flat_map, list_any-append, append-nil, append_assoc, Native, EventRef, Book, natives_after}
+use Rattle.event_sets.proofs.Words.{natives_of_event, among, joined_by, same_native, native_is, joined-append, NativesAreFirsts, firsts}
 
 -- one filter after another is the filter by both
 filters_join : (p q r : Native → Bool) → ((m : Native) → r m ≡ (q m && p m)) → (xs : List Native) → filter p (filter q xs) ≡ filter r xs

@@ -1,11 +1,6 @@
 -- Native events that join a list.
-use Rattle.std.proofs.lemmas.Bool.Decides.{nat_tests}
-use Rattle.std.proofs.Common.{◌≡◌, ℕ, suc, ◌+◌, ◌<◌, ◌≤◌, Bool, true, false, List, [], ◌∷◌, ◌++◌, length, drop, ap, arith, slice_get, Some, length-append}
-use Rattle.std.specs.Prelude.{All, if◌then◌else◌}
-use Rattle.std.proofs.lemmas.List.Elements.{All-push}
-use Rattle.papi_base.specs.declared.native.Native.{Native}
-use Rattle.postfix_rules.specs.Sameness.{among, joined_by}
-use Rattle.papi_base.proofs.Steps.{drop_at}
+use Rattle.event_sets.proofs.Words.{nat_tests, ◌≡◌, ℕ, suc, ◌+◌, ◌<◌, ◌≤◌, Bool, true, false, List, [], ◌∷◌, ◌++◌, length, drop, ap, arith, slice_get}
+use Rattle.event_sets.proofs.Words.{Some, length-append, All, if◌then◌else◌, All-push, Native, among, joined_by, drop_at}
 
 next_grows : (b : Bool) (n : Native) (seen : List Native) → length seen ≤ length (if b then seen else seen ++ n ∷ [])
 next_grows old n seen = grind (arith, nat_tests, length-append)

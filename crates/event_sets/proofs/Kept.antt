@@ -1,19 +1,8 @@
 -- What each set keeps is kept by its changes.
-use Rattle.std.proofs.Common.{◌≡◌, ℕ, ◌<◌, ◌≤◌, false, List, [], ◌∷◌, refl, subst, arith, rules, slice_index, slice_set, Option, Some, None}
-use Rattle.std.proofs.Math.ListN.{length-set}
-use Rattle.std.specs.Prelude.{All, is_some, if◌then◌else◌, nat_lt}
-use Rattle.std.specs.List.{list_any}
-use Rattle.std.proofs.lemmas.Bool.Decides.{nat_tests}
-use Rattle.std.proofs.lemmas.Grind.{common_steps}
-use Rattle.std.proofs.lemmas.Nat.Bits.{bit_at-zero}
-use Rattle.std.proofs.lemmas.List.{length-map}
-use Rattle.std.proofs.lemmas.Option.{slice_get_within}
-use Rattle.papi_base.specs.declared.native.Native.{Native}
-use Rattle.counter_alloc.specs.Assignments.{Assignable, Has}
-use Rattle.counter_alloc.specs.Masks.{masks_of}
-use Rattle.counter_alloc.specs.Matchings.{MatchingView}
-use Rattle.event_sets.specs.AtRest.{is_armed, is_bad_domain, is_bad_slice, is_other}
-use Rattle.event_sets.specs.Sets.{IsMatched, IsShared, IsSound, SetView}
+use Rattle.event_sets.proofs.Words.{◌≡◌, ℕ, ◌<◌, ◌≤◌, false, List, [], ◌∷◌, refl, subst, arith, rules, slice_index, slice_set, Option, Some, None}
+use Rattle.event_sets.proofs.Words.{length-set, All, is_some, if◌then◌else◌, nat_lt, list_any, nat_tests, common_steps, bit_at-zero, length-map}
+use Rattle.event_sets.proofs.Words.{slice_get_within, Native, Assignable, Has, masks_of, MatchingView, is_armed, is_bad_domain, is_bad_slice}
+use Rattle.event_sets.proofs.Words.{is_other, IsMatched, IsShared, IsSound, SetView}
 use Rattle.event_sets.proofs.Agreeing.{by_number, not_other}
 use Rattle.event_sets.proofs.Sublists.{mask_at}
 

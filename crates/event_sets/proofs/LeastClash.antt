@@ -1,19 +1,7 @@
 -- A conflict names the least set of natives with fewer allowed counters than members.
-use Rattle.std.proofs.lemmas.Bool.Decides.{nat_tests}
-use Rattle.std.proofs.Common.{◌≡◌, ◌<◌, ◌≤◌, ◌^◌, Bool, false, List, length, arith, Option, Some}
-use Rattle.std.specs.Option.{option_map}
-use Rattle.std.specs.Prelude.{All, if◌then◌else◌}
-use Rattle.std.proofs.lemmas.Bool.{ltb-false, or_parts}
-use Rattle.std.proofs.lemmas.List.{length-map}
-use Rattle.papi_base.specs.declared.native.Native.{Native}
-use Rattle.counter_alloc.specs.Listing.{is_assignable}
-use Rattle.counter_alloc.specs.Masks.{masks_of}
-use Rattle.counter_alloc.proofs.LeastSet.{least_set}
-use Rattle.event_sets.specs.declared.refusal.Clash.{Clash}
-use Rattle.papi_base.specs.declared.code.Code.TheVariants.{Einval, Ecount}
-use Rattle.event_sets.specs.declared.refusal.Refusal.TheVariants.{Plain, Conflict}
-use Rattle.event_sets.specs.Assigning.{blamed_unless}
-use Rattle.event_sets.specs.Conflicts.{AddConflictIsLeast, ConflictIsLeast, IsLeastClash}
+use Rattle.event_sets.proofs.Words.{nat_tests, ◌≡◌, ◌<◌, ◌≤◌, ◌^◌, Bool, false, List, length, arith, Option, Some, option_map, All, if◌then◌else◌}
+use Rattle.event_sets.proofs.Words.{ltb-false, or_parts, length-map, Native, is_assignable, masks_of, least_set, Clash, Einval, Ecount, Plain}
+use Rattle.event_sets.proofs.Words.{Conflict, blamed_unless, AddConflictIsLeast, ConflictIsLeast, IsLeastClash}
 use Rattle.event_sets.proofs.Clashing.{are_masks}
 
 blamed_least : (natives : List Native) (clash : Clash) → All (λ n. n.allowed < 2 ^ 32) natives → length natives ≤ 32

@@ -10,3 +10,4 @@ pub mod Sublists
 pub mod Removed
 pub mod Arming
 pub mod Sound
+pub mod Words

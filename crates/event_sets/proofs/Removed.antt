@@ -1,19 +1,10 @@
 -- A set without one of its events.
-use Rattle.std.proofs.Common.{◌≡◌, ◌≢◌, ℕ, zero, suc, ◌+◌, ◌<◌, ◌≤◌, ◌^◌, true, List, [], ◌∷◌, ◌++◌, length, remove, take, refl, ap, sym, ◌∙◌, arith, slice_get, Some, None}
-use Rattle.std.specs.Prelude.{All}
-use Rattle.papi_base.specs.declared.native.Native.{Native}
-use Rattle.papi_base.specs.declared.native.EventRef.{EventRef}
-use Rattle.counter_alloc.specs.Assignments.{Assignable}
-use Rattle.counter_alloc.specs.Masks.{masks_of}
-use Rattle.postfix_rules.specs.Sameness.{among, joined_by}
-use Rattle.postfix_rules.specs.Presets.{Book, natives_after, natives_of, natives_of_event}
-use Rattle.postfix_rules.proofs.Joined.{each_is_among, is_among, none_twice}
-use Rattle.event_sets.specs.AtRest.{set_natives}
-use Rattle.event_sets.specs.Sets.{IsSound, SetView}
+use Rattle.event_sets.proofs.Words.{◌≡◌, ◌≢◌, ℕ, zero, suc, ◌+◌, ◌<◌, ◌≤◌, ◌^◌, true, List, [], ◌∷◌, ◌++◌, length, remove, take, refl, ap, sym, ◌∙◌}
+use Rattle.event_sets.proofs.Words.{arith, slice_get, Some, None, All, Native, EventRef, Assignable, masks_of, among, joined_by, Book, natives_after}
+use Rattle.event_sets.proofs.Words.{natives_of, natives_of_event, each_is_among, is_among, none_twice, set_natives, IsSound, SetView, take_at}
 use Rattle.event_sets.proofs.Agreeing.{by_number, length-remove, natives_all, numbered}
 use Rattle.event_sets.proofs.JoinedNatives.{joined_grows}
 use Rattle.event_sets.proofs.Removing.{get_removed, stood, stood_apart}
-use Rattle.papi_base.proofs.Steps.{take_at}
 use Rattle.event_sets.proofs.Sublists.{no_more, of_among, sub_assignable}
 
 -- ---- a list without an item, as a loop goes through it

@@ -1,29 +1,13 @@
 -- What each set keeps, from the definitions alone.
-use Rattle.std.proofs.Common.{◌≡◌, ℕ, zero, suc, ◌<◌, ◌≤◌, Bool, true, false, List, [], ◌∷◌, length, refl, ap, sym, subst, ◌∙◌, arith, rules, slice_get, Option, Some, None, IsSomeAnd, get_or}
-use Rattle.std.specs.Prelude.{All, if◌then◌else◌, nat_le, nat_lt, unwrap_or}
-use Rattle.std.specs.Option.{option_map, option_map_or, ForSome}
-use Rattle.std.proofs.lemmas.Bool.Decides.{nat_tests}
-use Rattle.std.proofs.lemmas.Bool.{or_parts}
-use Rattle.papi_base.proofs.Steps.{none_of, passed_over}
-use Rattle.papi_base.specs.declared.bits.Domain.{Domain}
-use Rattle.papi_base.specs.declared.native.Native.{Native}
+use Rattle.event_sets.proofs.Words.{◌≡◌, ℕ, zero, suc, ◌<◌, ◌≤◌, Bool, true, false, List, [], ◌∷◌, length, refl, ap, sym, subst, ◌∙◌, arith, rules}
+use Rattle.event_sets.proofs.Words.{slice_get, Option, Some, None, IsSomeAnd, get_or, All, if◌then◌else◌, nat_le, nat_lt, unwrap_or, option_map}
+use Rattle.event_sets.proofs.Words.{option_map_or, ForSome, nat_tests, or_parts, none_of, passed_over, Domain, Native, Einval, Ecombo, Ecount}
+use Rattle.event_sets.proofs.Words.{Assignable, is_assignable, masks_of, assignable_of, Book, DerivedView, IsDerived, one_more_joins, Clash, Plain}
+use Rattle.event_sets.proofs.Words.{Conflict, Fits, blamed_unless, clash_of, Widths, cannot_take, clash_with, has_event, is_armed, is_bad_domain}
+use Rattle.event_sets.proofs.Words.{is_bad_slice, is_full, is_other, natives_with, new_set, place_of, widths_at, IsSound, set_view, AddedIsSound}
+use Rattle.event_sets.proofs.Words.{ArmedIsSound, AssignedIsSound, EmptiedIsSound, HeldFit, NewIsSound, RemovedIsSound, WithDomainIsSound}
+use Rattle.event_sets.proofs.Words.{WithSliceIsSound}
 use Rattle.papi_base.specs.declared.native.EventRef.TheVariants as event
-use Rattle.papi_base.specs.declared.code.Code.TheVariants.{Einval, Ecombo, Ecount}
-use Rattle.counter_alloc.specs.Assignments.{Assignable}
-use Rattle.counter_alloc.specs.Listing.{is_assignable}
-use Rattle.counter_alloc.specs.Masks.{masks_of}
-use Rattle.counter_alloc.proofs.Fitting.{assignable_of}
-use Rattle.postfix_rules.specs.Presets.{Book}
-use Rattle.postfix_rules.specs.Rules.{DerivedView, IsDerived}
-use Rattle.postfix_rules.proofs.Joined.{one_more_joins}
-use Rattle.event_sets.specs.declared.refusal.Clash.{Clash}
-use Rattle.event_sets.specs.declared.refusal.Refusal.TheVariants.{Plain, Conflict}
-use Rattle.postfix_rules.specs.Fitting.{Fits}
-use Rattle.event_sets.specs.Assigning.{blamed_unless, clash_of}
-use Rattle.event_sets.specs.AtRest.{Widths, cannot_take, clash_with, has_event, is_armed, is_bad_domain, is_bad_slice}
-use Rattle.event_sets.specs.AtRest.{is_full, is_other, natives_with, new_set, place_of, widths_at}
-use Rattle.event_sets.specs.Sets.{IsSound, set_view}
-use Rattle.event_sets.specs.Soundness.{AddedIsSound, ArmedIsSound, AssignedIsSound, EmptiedIsSound, HeldFit, NewIsSound, RemovedIsSound, WithDomainIsSound, WithSliceIsSound}
 use Rattle.event_sets.proofs.Agreeing.{held_have_natives, numbered}
 use Rattle.event_sets.proofs.Clashing.{are_masks}
 use Rattle.event_sets.proofs.Kept.{armed_sound, assigned_sound, domain_sound, sliced_sound}

@@ -1,14 +1,7 @@
 -- Natives that are among others.
-use Rattle.std.proofs.Common.{◌≡◌, ◌≢◌, ◌∙◌, ◌∷◌, ◌<◌, ◌≤◌, ◌||◌, ℕ, zero, suc, Bool, true, false, List, [], length, map, refl, sym, ap, subst, arith, slice_get, slice_index, Some}
-use Rattle.std.specs.Prelude.{All, if◌then◌else◌}
-use Rattle.std.specs.List.{position_or_len}
-use Rattle.std.proofs.lemmas.List.{get_or-map, length-map}
-use Rattle.std.proofs.lemmas.Option.{slice_get_within, get_or_from_slice_get}
-use Rattle.papi_base.specs.declared.native.Native.{Native}
-use Rattle.counter_alloc.specs.Assignments.{Assignable, Has}
-use Rattle.counter_alloc.specs.Masks.{masks_of}
-use Rattle.postfix_rules.specs.Sameness.{among, same_native}
-use Rattle.postfix_rules.proofs.Equal.{native_is}
+use Rattle.event_sets.proofs.Words.{◌≡◌, ◌≢◌, ◌∙◌, ◌∷◌, ◌<◌, ◌≤◌, ◌||◌, ℕ, zero, suc, Bool, true, false, List, [], length, map, refl, sym, ap, subst}
+use Rattle.event_sets.proofs.Words.{arith, slice_get, slice_index, Some, All, if◌then◌else◌, position_or_len, get_or-map, length-map}
+use Rattle.event_sets.proofs.Words.{slice_get_within, get_or_from_slice_get, Native, Assignable, Has, masks_of, among, same_native, native_is}
 use Rattle.event_sets.proofs.Agreeing.{first_place, numbered}
 
 abbrev pub AreDistinct : List Native → Type 0

@@ -1,14 +1,7 @@
 -- The counters of names, as bits.
-use Rattle.std.proofs.Common.{◌≡◌, ◌∙◌, ◌<◌, ◌≤◌, ◌^◌, ◌%◌, ◌*◌, ◌∷◌, ℕ, List, [], Option, Some, None, Bool, true, false, length, refl, ap, arith}
-use Rattle.std.proofs.Math.Pow.{pow-lt}
-use Rattle.std.proofs.lemmas.Nat.{or_comm, or_lt, le_or_l, le_or_r, pow_pos}
-use Rattle.std.specs.Prelude.{is_some, not, if◌then◌else◌}
-use Rattle.std.specs.Int.RustNames.{bit_or}
-use Rattle.std.specs.List.{filter, fold}
-use Rattle.std.specs.Str.{bytes_eq}
-use Rattle.table_rows.specs.Texts.{Text}
-use Rattle.event_tables.specs.Tables.{CounterText}
-use Rattle.event_tables.specs.Unit.{bits_of, counter_place, place_bit}
+use Rattle.event_tables.proofs.Words.{◌≡◌, ◌∙◌, ◌<◌, ◌≤◌, ◌^◌, ◌%◌, ◌*◌, ◌∷◌, ℕ, List, [], Option, Some, None, Bool, true, false, length, refl, ap}
+use Rattle.event_tables.proofs.Words.{arith, pow-lt, or_comm, or_lt, le_or_l, le_or_r, pow_pos, is_some, not, if◌then◌else◌, bit_or, filter, fold}
+use Rattle.event_tables.proofs.Words.{bytes_eq, Text, CounterText, bits_of, counter_place, place_bit}
 use Rattle.event_tables.proofs.Searches.{position_from-lt}
 
 -- a bit below 32 is what the shift gives

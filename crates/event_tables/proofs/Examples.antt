@@ -1,12 +1,8 @@
 -- Unit files that are written out, each with its tables or its first fault.
-use Rattle.std.proofs.Common.{◌≡◌, ℕ, List, [], ◌∷◌, Option, Some, None, true, false, refl, codes, map}
-use Rattle.csv.proofs.OnLiterals.{csv_on_literals}
-use Rattle.table_rows.specs.Rows.{rows_of}
-use Rattle.table_rows.specs.Texts.{Text, decimal_in, hex_in, is_decimal, is_name, is_numeral, text_at, trimmed, without_front}
-use Rattle.event_tables.specs.Lines.{fixed_mods, fixed_mods_of, flags_of, line_of, words_of}
-use Rattle.table_rows.specs.Tables.{first_fault}
-use Rattle.event_tables.specs.Unit.{cause_in, components_in, counters_in, events_in, masks_in, on_last, unit_fault, unit_tables}
-use Rattle.event_tables.specs.declared.fault.RowCause.{RowCause}
+use Rattle.event_tables.proofs.Words.{◌≡◌, ℕ, List, [], ◌∷◌, Option, Some, None, true, false, refl, codes, map, csv_on_literals, rows_of, Text}
+use Rattle.event_tables.proofs.Words.{decimal_in, hex_in, is_decimal, is_name, is_numeral, text_at, trimmed, without_front, fixed_mods, fixed_mods_of}
+use Rattle.event_tables.proofs.Words.{flags_of, line_of, words_of, first_fault, cause_in, components_in, counters_in, events_in, masks_in, on_last}
+use Rattle.event_tables.proofs.Words.{unit_fault, unit_tables, RowCause}
 use Rattle.event_tables.specs.declared.fault.RowCause.TheVariants as cause
 
 unfoldable on_units : Unit {0}

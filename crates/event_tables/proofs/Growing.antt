@@ -1,24 +1,12 @@
 -- A list whose last item is changed in place.
-use Rattle.std.proofs.Common.{◌≡◌, ◌∙◌, ◌+◌, ◌-◌, ◌<◌, ◌∷◌, ℕ, zero, suc, List, [], Option, Some, None, Bor, map, length, get_or, refl, sym, ap, subst, arith}
-use Rattle.std.proofs.Math.ListN.{set}
-use Rattle.std.proofs.lemmas.List.{length-map}
-use Rattle.std.proofs.lemmas.Option.{slice_get-get_or, slice_get-map}
-use Rattle.std.specs.Prelude.{⊤, ◌&&◌, IfSome, if◌then◌else◌, is_some, nat_le, option_map, slice_get}
-use Rattle.std.specs.List.{AllByRecursion, list_all, list_any}
-use Rattle.std.specs.Option.{option_map_or}
-use Rattle.papi_base.proofs.Steps.{passed_over}
-use Rattle.table_rows.specs.Texts.{Text}
-use Rattle.event_tables.specs.Tables.{ComponentText, EventText, MaskText, same_name}
-use Rattle.event_tables.specs.Lines.{Line, component, event, umask, umask_counters, umask_modifiers, row_line}
-use Rattle.event_tables.specs.Unit.{bits_of, cause_in, counter_place, inner_cause, last_of, mask_cause, on_last, within}
-use Rattle.event_tables.specs.Steps.{CanGrow, HasMask, grown, with_line}
-use Rattle.event_tables.specs.Views.{component_text}
-use Rattle.event_tables.specs.declared.component.Component.{Component}
-use Rattle.event_tables.specs.declared.row.Row.{Row}
+use Rattle.event_tables.proofs.Words.{◌≡◌, ◌∙◌, ◌+◌, ◌-◌, ◌<◌, ◌∷◌, ℕ, zero, suc, List, [], Option, Some, None, Bor, map, length, get_or, refl, sym}
+use Rattle.event_tables.proofs.Words.{ap, subst, arith, set, length-map, slice_get-get_or, slice_get-map, ⊤, ◌&&◌, IfSome, if◌then◌else◌, is_some}
+use Rattle.event_tables.proofs.Words.{nat_le, option_map, slice_get, AllByRecursion, list_all, list_any, option_map_or, passed_over, Text}
+use Rattle.event_tables.proofs.Words.{ComponentText, EventText, MaskText, same_name, Line, component, event, umask, umask_counters, umask_modifiers}
+use Rattle.event_tables.proofs.Words.{row_line, bits_of, cause_in, counter_place, inner_cause, last_of, mask_cause, on_last, within, CanGrow, HasMask}
+use Rattle.event_tables.proofs.Words.{grown, with_line, component_text, Component, Row, RowCause, MOST_COMPONENT_EVENTS}
 use Rattle.event_tables.specs.declared.row.Row.TheVariants as row
-use Rattle.event_tables.specs.declared.fault.RowCause.{RowCause}
 use Rattle.event_tables.specs.declared.fault.RowCause.TheVariants as cause
-use Rattle.event_tables.specs.declared.limits.TheConstants.{MOST_COMPONENT_EVENTS}
 
 pub on_last-set : {X Y : Type 0} (view : X → Y) (f : Y → Y) (xs : List X) (i : ℕ) (new d : X) → i + 1 ≡ length xs → view new ≡ f (view (get_or xs i d))
     → map view (set xs i new) ≡ on_last f (map view xs)

@@ -1,15 +1,7 @@
 -- The index of a component's events, with one event more and with one umask more.
-use Rattle.std.proofs.Common.{◌≡◌, ◌∙◌, ◌+◌, ◌∷◌, ◌++◌, ℕ, List, [], Option, Some, None, Bool, true, false, length, refl, sym, ap, subst, arith}
-use Rattle.std.proofs.lemmas.Slice.Eq.{bytes_eq-Decides}
-use Rattle.std.specs.Prelude.{◌||◌, is_some, if◌then◌else◌}
-use Rattle.std.specs.List.{list_any, position_from}
-use Rattle.std.specs.Map.{update}
-use Rattle.std.specs.Str.{bytes_eq, str_to_ascii_lowercase}
-use Rattle.std.proofs.lemmas.Bool.{or_parts}
-use Rattle.table_rows.specs.Texts.{Text}
-use Rattle.event_tables.specs.Steps.{with_mask}
-use Rattle.event_tables.specs.Tables.{EventText, MaskText, row_of_lower, same_name}
-use Rattle.event_tables.specs.Unit.{on_last}
+use Rattle.event_tables.proofs.Words.{◌≡◌, ◌∙◌, ◌+◌, ◌∷◌, ◌++◌, ℕ, List, [], Option, Some, None, Bool, true, false, length, refl, sym, ap, subst}
+use Rattle.event_tables.proofs.Words.{arith, bytes_eq-Decides, ◌||◌, is_some, if◌then◌else◌, list_any, position_from, update, bytes_eq}
+use Rattle.event_tables.proofs.Words.{str_to_ascii_lowercase, or_parts, Text, with_mask, EventText, MaskText, row_of_lower, same_name, on_last}
 
 -- some item is found if there is one
 pub any-found : {X : Type 0} (p : X → Bool) (i : ℕ) (xs : List X) → is_some (position_from p i xs) ≡ list_any p xs

@@ -1,9 +1,6 @@
 -- What holds of each item holds of the one at a place.
-use Rattle.std.proofs.Common.{◌≡◌, ◌∙◌, ◌<◌, ◌∷◌, ℕ, zero, suc, List, [], Some, map, length, get_or, sym, ap, arith}
-use Rattle.std.proofs.lemmas.Option.{slice_get-get_or}
-use Rattle.std.proofs.Math.ListN.{set}
-use Rattle.std.specs.Prelude.{slice_get}
-use Rattle.std.specs.List.{AllByRecursion}
+use Rattle.event_tables.proofs.Words.{◌≡◌, ◌∙◌, ◌<◌, ◌∷◌, ℕ, zero, suc, List, [], Some, map, length, get_or, sym, ap, arith, slice_get-get_or, set}
+use Rattle.event_tables.proofs.Words.{slice_get, AllByRecursion}
 
 pub all-get : {X Y : Type 0} (P : Y → Type 0) (view : X → Y) (xs : List X) (i : ℕ) (d : X) → AllByRecursion P (map view xs) → i < length xs → P (view (get_or xs i d))
 all-get P view [] i d h lt = absurd (omega arith)

@@ -1,22 +1,15 @@
 -- A row with no cause keeps what the tables keep.
-use Rattle.std.proofs.Common.{◌≡◌, ◌∙◌, ◌<◌, ◌∷◌, ◌++◌, ℕ, List, [], Option, Some, None, Bool, true, false, length, refl, ap, sym, subst, arith, length-append}
-use Rattle.std.proofs.Math.Pow.{pow-lt}
-use Rattle.std.proofs.lemmas.Bool.{and_parts, leb-false, or_parts}
-use Rattle.std.specs.Prelude.{◌&&◌, ◌||◌, IfSome, is_some, if◌then◌else◌, nat_le, unwrap_or}
-use Rattle.std.specs.List.{AllByRecursion, list_all, list_any}
-use Rattle.std.specs.Str.{bytes_eq}
-use Rattle.papi_base.proofs.Steps.{passed_over}
-use Rattle.table_rows.specs.Tables.{NoTwo}
-use Rattle.table_rows.specs.Texts.{Text, is_empty, is_name}
-use Rattle.table_rows.proofs.Texts.{all-append, all-map, no_two-more}
-use Rattle.event_tables.specs.Tables.{ComponentText, CounterText, EventText, MaskText, same_name}
-use Rattle.event_tables.specs.Lines.{Line, skipped, bad, component, counter, event, umask, umask_counters, umask_modifiers}
-use Rattle.event_tables.specs.Unit.{bits_of, cause_in, component_cause, component_of, counter_cause, counter_place, counter_row, counters_in, event_cause}
-use Rattle.event_tables.specs.Unit.{event_row, events_in, fixing, inner_counters_cause, inner_mask_cause, is_modifier, last_of, mask_cause, modifier_words, on_last, restricted, within}
-use Rattle.event_tables.specs.Steps.{grown, on_last_mask, with_counter, with_event, with_inner_mask, with_last_mask, with_line, with_mask}
-use Rattle.event_tables.specs.Kept.{HasCounters, IsComponent, IsCounter, IsEvent, IsEventLine, IsLine, IsMask, IsMaskLine, IsTables, IsWidth}
+use Rattle.event_tables.proofs.Words.{◌≡◌, ◌∙◌, ◌<◌, ◌∷◌, ◌++◌, ℕ, List, [], Option, Some, None, Bool, true, false, length, refl, ap, sym, subst}
+use Rattle.event_tables.proofs.Words.{arith, length-append, pow-lt, and_parts, leb-false, or_parts, ◌&&◌, ◌||◌, IfSome, is_some, if◌then◌else◌}
+use Rattle.event_tables.proofs.Words.{nat_le, unwrap_or, AllByRecursion, list_all, list_any, bytes_eq, passed_over, NoTwo, Text, is_empty, is_name}
+use Rattle.event_tables.proofs.Words.{all-append, all-map, no_two-more, ComponentText, CounterText, EventText, MaskText, same_name, Line, skipped}
+use Rattle.event_tables.proofs.Words.{bad, component, counter, event, umask, umask_counters, umask_modifiers, bits_of, cause_in, component_cause}
+use Rattle.event_tables.proofs.Words.{component_of, counter_cause, counter_place, counter_row, counters_in, event_cause, event_row, events_in, fixing}
+use Rattle.event_tables.proofs.Words.{inner_counters_cause, inner_mask_cause, is_modifier, last_of, mask_cause, modifier_words, on_last, restricted}
+use Rattle.event_tables.proofs.Words.{within, grown, on_last_mask, with_counter, with_event, with_inner_mask, with_last_mask, with_line, with_mask}
+use Rattle.event_tables.proofs.Words.{HasCounters, IsComponent, IsCounter, IsEvent, IsEventLine, IsLine, IsMask, IsMaskLine, IsTables, IsWidth}
+use Rattle.event_tables.proofs.Words.{MOST_COMPONENTS, MOST_COMPONENT_EVENTS, MOST_COUNTERS, MOST_UMASKS}
 use Rattle.event_tables.specs.declared.fault.RowCause.TheVariants as cause
-use Rattle.event_tables.specs.declared.limits.TheConstants.{MOST_COMPONENTS, MOST_COMPONENT_EVENTS, MOST_COUNTERS, MOST_UMASKS}
 use Rattle.event_tables.proofs.Bits.{bits_of-lt, bits_of-some}
 use Rattle.event_tables.proofs.Growing.{last_of-later}
 

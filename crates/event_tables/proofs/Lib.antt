@@ -9,3 +9,4 @@ pub mod Keeping
 pub mod LinesKept
 pub mod Reading
 mod Examples
+pub mod Words

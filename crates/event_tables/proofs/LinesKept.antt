@@ -1,15 +1,10 @@
 -- What a row of a unit file keeps, by itself.
-use Rattle.std.proofs.Common.{◌≡◌, ◌<◌, ◌^◌, ℕ, List, Option, Some, None, length, refl, arith}
+use Rattle.event_tables.proofs.Words.{◌≡◌, ◌<◌, ◌^◌, ℕ, List, Option, Some, None, length, refl, arith, option_map_or, bytes_eq, and_parts, cond_both}
+use Rattle.event_tables.proofs.Words.{not-true, Text, decimal_in, hex_in, is_decimal, is_name, is_skipped, text_at, decimal_in-range, hex_in-range}
+use Rattle.event_tables.proofs.Words.{option_both, skipped, bad, component, counter, event, umask, umask_counters, umask_modifiers, are_names}
+use Rattle.event_tables.proofs.Words.{component_line, counter_line, event_line, fixed_mods_of, fixes_one, flags_of, is_description, line_of, mask_of}
+use Rattle.event_tables.proofs.Words.{umask_counters_line, umask_line, umask_modifiers_line, words_of, IsLine, IsWidth}
 use Rattle.std.specs.Prelude.{◌&&◌, ◌||◌, ◌==◌, IfSome, if◌then◌else◌, codes}
-use Rattle.std.specs.Option.{option_map_or}
-use Rattle.std.specs.Str.{bytes_eq}
-use Rattle.std.proofs.lemmas.Bool.{and_parts, cond_both, not-true}
-use Rattle.table_rows.specs.Texts.{Text, decimal_in, hex_in, is_decimal, is_name, is_skipped, text_at}
-use Rattle.table_rows.proofs.Ranges.{decimal_in-range, hex_in-range}
-use Rattle.table_rows.proofs.Texts.{option_both}
-use Rattle.event_tables.specs.Lines.{skipped, bad, component, counter, event, umask, umask_counters, umask_modifiers, are_names, component_line, counter_line, event_line}
-use Rattle.event_tables.specs.Lines.{fixed_mods_of, fixes_one, flags_of, is_description, line_of, mask_of, umask_counters_line, umask_line, umask_modifiers_line, words_of}
-use Rattle.event_tables.specs.Kept.{IsLine, IsWidth}
 
 component_line-kept : (name pmu : Text) → IsLine (component_line name pmu)
 component_line-kept name pmu = cond_both (is_name name && is_name pmu) (component name pmu) bad IsLine (λ e. and_parts _ _ e) (λ e. tt)

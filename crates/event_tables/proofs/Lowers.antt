@@ -1,15 +1,7 @@
 -- Names in lower case, byte by byte.
-use Rattle.std.proofs.Common.{◌≡◌, ◌∙◌, ◌+◌, ◌<◌, ◌≤◌, ◌∷◌, ◌++◌, ℕ, zero, suc, List, [], Bool, true, length, get_or, take, refl, ap, sym, arith}
-use Rattle.std.proofs.lemmas.Bool.{leb-true, and_parts}
-use Rattle.std.proofs.lemmas.List.{length-map, length-take-le, map-append, take_more}
-use Rattle.std.proofs.lemmas.Str.{encode_ascii}
-use Rattle.std.specs.Char.{to_ascii_lowercase}
-use Rattle.std.specs.List.{list_all}
-use Rattle.std.specs.Prelude.{encode_utf8}
-use Rattle.std.specs.Str.{str_to_ascii_lowercase}
-use Rattle.std.proofs.lemmas.Str.Ascii.{lowercase_ascii}
-use Rattle.table_rows.specs.Texts.{Text, is_name, is_name_byte}
-use Rattle.table_rows.proofs.Numerals.{name_byte-ascii}
+use Rattle.event_tables.proofs.Words.{◌≡◌, ◌∙◌, ◌+◌, ◌<◌, ◌≤◌, ◌∷◌, ◌++◌, ℕ, zero, suc, List, [], Bool, true, length, get_or, take, refl, ap, sym}
+use Rattle.event_tables.proofs.Words.{arith, leb-true, and_parts, length-map, length-take-le, map-append, take_more, encode_ascii, to_ascii_lowercase}
+use Rattle.event_tables.proofs.Words.{list_all, encode_utf8, str_to_ascii_lowercase, lowercase_ascii, Text, is_name, is_name_byte, name_byte-ascii}
 
 all-pass : (p : ℕ → Bool) (xs : List ℕ) (i d : ℕ) → list_all p xs ≡ true → i < length xs → p (get_or xs i d) ≡ true
 all-pass p [] i d e lt = absurd (omega arith)

@@ -1,18 +1,7 @@
 -- The components of some rows and of one row more.
-use Rattle.std.proofs.Common.{◌≡◌, ◌∙◌, ◌∷◌, ◌++◌, List, [], Ok, Err, Option, map, sym, ap, subst, refl, arith}
-use Rattle.std.specs.Prelude.{OnOk, Result}
-use Rattle.std.specs.List.{AllByRecursion}
-use Rattle.table_rows.specs.Tables.{RefusesRow, TakesRow}
-use Rattle.table_rows.specs.declared.fault.RowRefusal.{RowRefusal}
-use Rattle.event_tables.specs.Index.{GiveComponents, IsIndexed}
-use Rattle.event_tables.specs.Kept.{IsLine, IsTables}
-use Rattle.event_tables.specs.Lines.{Line}
-use Rattle.event_tables.specs.Steps.{with_line}
-use Rattle.event_tables.specs.Tables.{ComponentText}
-use Rattle.event_tables.specs.Unit.{cause_in, components_in, row_cause}
-use Rattle.event_tables.specs.Views.{component_text}
-use Rattle.event_tables.specs.declared.component.Component.{Component}
-use Rattle.event_tables.specs.declared.fault.RowCause.{RowCause}
+use Rattle.event_tables.proofs.Words.{◌≡◌, ◌∙◌, ◌∷◌, ◌++◌, List, [], Ok, Err, Option, map, sym, ap, subst, refl, arith, OnOk, Result, AllByRecursion}
+use Rattle.event_tables.proofs.Words.{RefusesRow, TakesRow, RowRefusal, GiveComponents, IsIndexed, IsLine, IsTables, Line, with_line, ComponentText}
+use Rattle.event_tables.proofs.Words.{cause_in, components_in, row_cause, component_text, Component, RowCause}
 use Rattle.event_tables.proofs.Keeping.{kept}
 use Rattle.event_tables.proofs.RowsMore.{components-more}
 

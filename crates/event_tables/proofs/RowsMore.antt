@@ -1,11 +1,8 @@
 -- The tables of some rows and of one more.
-use Rattle.std.proofs.Common.{◌≡◌, ◌∙◌, ◌∷◌, ◌++◌, ℕ, List, [], refl, sym, ap, ap₂, append_assoc}
-use Rattle.std.proofs.lemmas.List.{append-nil}
-use Rattle.table_rows.specs.Texts.{Text}
-use Rattle.event_tables.specs.Tables.{ComponentText, CounterText, EventText, MaskText}
-use Rattle.event_tables.specs.Lines.{Line, skipped, bad, component, counter, event, umask, umask_counters, umask_modifiers}
-use Rattle.event_tables.specs.Unit.{bits_of, component_of, components_in, counter_row, counters_in, event_row, events_in, fixing, masks_in, on_last, restricted}
-use Rattle.event_tables.specs.Steps.{grown, on_last_mask, with_line, with_mask}
+use Rattle.event_tables.proofs.Words.{◌≡◌, ◌∙◌, ◌∷◌, ◌++◌, ℕ, List, [], refl, sym, ap, ap₂, append_assoc, append-nil, Text, ComponentText}
+use Rattle.event_tables.proofs.Words.{CounterText, EventText, MaskText, Line, skipped, bad, component, counter, event, umask, umask_counters}
+use Rattle.event_tables.proofs.Words.{umask_modifiers, bits_of, component_of, components_in, counter_row, counters_in, event_row, events_in, fixing}
+use Rattle.event_tables.proofs.Words.{masks_in, on_last, restricted, grown, on_last_mask, with_line, with_mask}
 
 -- what a row adds to the counters of its component
 abbrev counter_of : Line → List CounterText

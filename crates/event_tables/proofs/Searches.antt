@@ -1,10 +1,7 @@
 -- Searches of rows by a test of what callers see of them.
-use Rattle.std.proofs.Common.{◌≡◌, ◌+◌, ◌<◌, ◌∷◌, ℕ, List, [], Option, Some, Bool, true, false, map, length, refl, ap, arith}
-use Rattle.std.specs.Prelude.{◌&&◌, ◌||◌, ◌==◌, not, if◌then◌else◌}
-use Rattle.std.specs.List.{filter, list_all, list_any, position_from, slice_split}
-use Rattle.table_rows.specs.Texts.{Text, is_empty}
-use Rattle.table_rows.proofs.Texts.{given}
-use Rattle.event_tables.specs.Lines.{words_of}
+use Rattle.event_tables.proofs.Words.{◌≡◌, ◌+◌, ◌<◌, ◌∷◌, ℕ, List, [], Option, Some, Bool, true, false, map, length, refl, ap, arith, ◌&&◌, ◌||◌}
+use Rattle.event_tables.proofs.Words.{◌==◌, not, if◌then◌else◌, filter, list_all, list_any, position_from, slice_split, Text, is_empty, given}
+use Rattle.event_tables.proofs.Words.{words_of}
 
 pub position_from-map : {X Y : Type 0} (p : Y → Bool) (h : X → Y) (i : ℕ) (xs : List X) → position_from (λ x. p (h x)) i xs ≡ position_from p i (map h xs)
 position_from-map p h i [] = refl

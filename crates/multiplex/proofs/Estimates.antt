@@ -1,12 +1,7 @@
 -- An estimate, computed in two parts that fit 64 bits.
-use Rattle.std.proofs.Common.{◌≡◌, ℕ, zero, suc, ◌+◌, ◌*◌, ◌/◌, ◌%◌, ◌<◌, false, refl, ap, sym, ◌∙◌, arith}
-use Rattle.std.proofs.lemmas.Nat.{div-mul-add, div-add-mod', mod_below}
-use Rattle.std.proofs.Math.Nat.{mul-div_cancel}
-use Rattle.std.proofs.lemmas.Bool.{cond-false, ne_eqb}
-use Rattle.std.proofs.lemmas.Bool.Decides.{nat_tests}
+use Rattle.multiplex.proofs.Words.{◌≡◌, ℕ, zero, suc, ◌+◌, ◌*◌, ◌/◌, ◌%◌, ◌<◌, false, refl, ap, sym, ◌∙◌, arith, div-mul-add, div-add-mod', mod_below}
+use Rattle.multiplex.proofs.Words.{mul-div_cancel, cond-false, ne_eqb, nat_tests, estimate, OneGroupEstimate}
 use Rattle.std.specs.Prelude.{◌==◌}
-use Rattle.multiplex.specs.Turns.{estimate}
-use Rattle.multiplex.specs.Laws.{OneGroupEstimate}
 use Rattle.multiplex.proofs.Ticks.{one_group_active}
 
 -- whole multiples of the divisor come out of a quotient

@@ -1,11 +1,7 @@
 -- Groups as the loop makes them, one native event after another.
-use Rattle.std.proofs.Common.{◌≡◌, ℕ, zero, suc, ◌+◌, ◌<◌, ◌≤◌, Bool, true, false, List, [], ◌∷◌, ◌++◌, length, get_or, drop, refl, ap, sym, subst, ◌∙◌, arith, append_assoc, Some, slice_get}
-use Rattle.std.specs.Prelude.{if◌then◌else◌, All}
-use Rattle.std.proofs.lemmas.Option.{get_or_from_slice_get, slice_get_within}
-use Rattle.counter_alloc.specs.Listing.{is_assignable}
-use Rattle.multiplex.specs.Groups.{groups_from, group_count}
-use Rattle.multiplex.specs.Laws.{EachHasGroup}
-use Rattle.multiplex.specs.Rotations.{AreOrdered}
+use Rattle.multiplex.proofs.Words.{◌≡◌, ℕ, zero, suc, ◌+◌, ◌<◌, ◌≤◌, Bool, true, false, List, [], ◌∷◌, ◌++◌, length, get_or, drop, refl, ap, sym}
+use Rattle.multiplex.proofs.Words.{subst, ◌∙◌, arith, append_assoc, Some, slice_get, if◌then◌else◌, All, get_or_from_slice_get, slice_get_within}
+use Rattle.multiplex.proofs.Words.{is_assignable, groups_from, group_count, EachHasGroup, AreOrdered}
 
 -- each place has a group
 numbers_length : (group : List ℕ) (number : ℕ) (masks : List ℕ) → length (groups_from group number masks) ≡ length masks

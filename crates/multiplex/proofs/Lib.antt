@@ -3,3 +3,4 @@ pub mod Estimates
 pub mod Grouping
 pub mod Parts
 pub mod Slices
+pub mod Words

@@ -1,12 +1,7 @@
 -- The groups are the parts into which the list is cut, by induction on what is left of it.
-use Rattle.std.proofs.Common.{◌≡◌, ℕ, suc, ◌+◌, ◌<◌, ◌^◌, Bool, true, false, List, [], ◌∷◌, ◌++◌, length, get_or, replicate, refl, ap, subst, ◌∙◌, arith, append_assoc}
-use Rattle.std.specs.Prelude.{if◌then◌else◌}
-use Rattle.std.specs.List.{concat}
-use Rattle.std.proofs.lemmas.List.{append-nil}
-use Rattle.counter_alloc.specs.Listing.{is_assignable}
-use Rattle.counter_alloc.proofs.Fitting.{is_assignable_one}
-use Rattle.multiplex.specs.Groups.{groups_from}
-use Rattle.multiplex.specs.Laws.{AreLongest, GroupsAreParts, numbered}
+use Rattle.multiplex.proofs.Words.{◌≡◌, ℕ, suc, ◌+◌, ◌<◌, ◌^◌, Bool, true, false, List, [], ◌∷◌, ◌++◌, length, get_or, replicate, refl, ap, subst}
+use Rattle.multiplex.proofs.Words.{◌∙◌, arith, append_assoc, if◌then◌else◌, concat, append-nil, is_assignable, is_assignable_one, groups_from}
+use Rattle.multiplex.proofs.Words.{AreLongest, GroupsAreParts, numbered}
 
 -- what is left, cut: the places that join the last group, and the further parts
 record Cut (group : List ℕ) (number : ℕ) (masks : List ℕ) : Type 0 where

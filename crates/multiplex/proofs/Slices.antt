@@ -1,8 +1,6 @@
 -- A slice of the time has one group at each of its ticks.
-use Rattle.std.proofs.Common.{◌≡◌, ℕ, ◌+◌, ◌-◌, ◌*◌, ◌/◌, ◌%◌, ◌≤◌, ◌<◌, List, ap, sym, subst, ◌∙◌, arith}
-use Rattle.std.proofs.lemmas.Nat.{div-mul-add}
-use Rattle.std.proofs.Math.Nat.{mul-div_cancel}
-use Rattle.multiplex.specs.Rotations.{IsSliceOf, IsSpanOf}
+use Rattle.multiplex.proofs.Words.{◌≡◌, ℕ, ◌+◌, ◌-◌, ◌*◌, ◌/◌, ◌%◌, ◌≤◌, ◌<◌, List, ap, sym, subst, ◌∙◌, arith, div-mul-add, mul-div_cancel}
+use Rattle.multiplex.proofs.Words.{IsSliceOf, IsSpanOf}
 
 pub in_slice : (numbers : List ℕ) (slice count begin first end time : ℕ) → IsSliceOf numbers slice count begin first end → begin ≤ time → time - begin < slice → IsSpanOf numbers (time / slice % count) first end
 in_slice numbers slice count begin first end time s from below =

@@ -1,14 +1,8 @@
 -- The ticks of a group, by induction on the slices and on the ticks.
-use Rattle.std.proofs.Common.{◌≡◌, inl, inr, ℕ, zero, suc, ◌+◌, ◌-◌, ◌*◌, ◌/◌, ◌%◌, ◌≤◌, ◌<◌, Bool, true, false, cond, ◌==◌, List, [], ◌∷◌, ◌++◌, refl, sym, ◌∙◌, ap, ap₂, arith}
-use Rattle.std.specs.Prelude.{count_by, nat_lt, min}
-use Rattle.std.specs.List.{range_with_len}
-use Rattle.std.proofs.lemmas.List.Sums.{sum_by-append}
-use Rattle.std.proofs.lemmas.Nat.{mod-mul-add}
-use Rattle.std.proofs.Math.Nat.{mod-add-div', mod-lt, mul-add-div_right, div-lt_iff_lt-mul, div-mul-le_self, lt-div-mul-add}
-use Rattle.std.proofs.lemmas.Bool.{cases_order}
-use Rattle.std.proofs.lemmas.Bool.Decides.{nat_tests}
-use Rattle.multiplex.specs.Turns.{Turns, has_turn, active}
-use Rattle.multiplex.specs.Laws.{slices_run, RunsEvenly, ActiveInTurns, ActiveWithin, OneGroupActive}
+use Rattle.multiplex.proofs.Words.{◌≡◌, inl, inr, ℕ, zero, suc, ◌+◌, ◌-◌, ◌*◌, ◌/◌, ◌%◌, ◌≤◌, ◌<◌, Bool, true, false, cond, ◌==◌, List, [], ◌∷◌, ◌++◌}
+use Rattle.multiplex.proofs.Words.{refl, sym, ◌∙◌, ap, ap₂, arith, count_by, nat_lt, min, range_with_len, sum_by-append, mod-mul-add, mod-add-div'}
+use Rattle.multiplex.proofs.Words.{mod-lt, mul-add-div_right, div-lt_iff_lt-mul, div-mul-le_self, lt-div-mul-add, cases_order, nat_tests, Turns}
+use Rattle.multiplex.proofs.Words.{has_turn, active, slices_run, RunsEvenly, ActiveInTurns, ActiveWithin, OneGroupActive}
 
 -- a range in two parts
 pub range-append : (a m n : ℕ) → range_with_len a (m + n) ≡ range_with_len a m ++ range_with_len (a + m) n

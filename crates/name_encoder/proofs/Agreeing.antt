@@ -1,10 +1,8 @@
 -- A canonical name asks for nothing else than its umasks fix.
-use Rattle.std.proofs.Common.{◌≡◌, ◌∙◌, ◌&&◌, ◌||◌, ◌++◌, ℕ, Bool, true, false, List, Option, Some, None, refl, ap, ap₂, nat_lt, decimal}
+use Rattle.name_encoder.proofs.Words.{◌≡◌, ◌∙◌, ◌&&◌, ◌||◌, ◌++◌, ℕ, Bool, true, false, List, Option, Some, None, refl, ap, ap₂, nat_lt, decimal}
+use Rattle.name_encoder.proofs.Words.{FixedMods, Mods, Text, Modifier, SaidAttribute, asks_other, cmask, contradicts, edge, flag_value, invert}
+use Rattle.name_encoder.proofs.Words.{modifier, value_of, wanted_of}
 use Rattle.std.specs.Prelude.{if◌then◌else◌, option_map, unwrap_or}
-use Rattle.event_tables.specs.declared.component.FixedMods.{FixedMods}
-use Rattle.papi_base.specs.declared.native.Mods.{Mods}
-use Rattle.table_rows.specs.Texts.{Text}
-use Rattle.name_encoder.specs.Names.{Modifier, SaidAttribute, asks_other, cmask, contradicts, edge, flag_value, invert, modifier, value_of, wanted_of}
 use Rattle.name_encoder.proofs.Chosen.{own-saids-found, own_said}
 use Rattle.name_encoder.proofs.Fixing.{said_mods}
 use Rattle.name_encoder.proofs.Saids.{mask_saids, mod_saids}

@@ -1,24 +1,12 @@
 -- A canonical name names its native.
-use Rattle.std.proofs.Common.{◌≡◌, ◌∙◌, ◌+◌, ◌<◌, ◌≤◌, ◌==◌, ◌∷◌, ◌++◌, ℕ, Bool, true, false, List, [], Option, Some, None, Ok, length}
-use Rattle.std.proofs.Common.{slice_get, refl, sym, ap, ap₂, subst, arith, codes, decimal, nat_lt, tests}
-use Rattle.std.specs.List.{AllByRecursion}
-use Rattle.std.proofs.lemmas.List.{map-append}
-use Rattle.event_tables.specs.Kept.{IsEvent, IsMask, IsTables}
-use Rattle.table_rows.specs.Tables.{NoTwo}
-use Rattle.event_tables.specs.Tables.{ComponentText, MaskText}
-use Rattle.table_rows.specs.Texts.{Text}
-use Rattle.table_rows.proofs.Texts.{Digits, all-append, all-map, decimal-digits}
-use Rattle.std.specs.Str.{str_eq_ignore_ascii_case}
-use Rattle.papi_base.proofs.Steps.{passed_over}
-use Rattle.papi_base.specs.declared.native.Mods.{Mods}
-use Rattle.papi_base.specs.declared.native.Native.{Native}
-use Rattle.name_encoder.specs.declared.fault.NameFault.{NameFault}
+use Rattle.name_encoder.proofs.Words.{◌≡◌, ◌∙◌, ◌+◌, ◌<◌, ◌≤◌, ◌==◌, ◌∷◌, ◌++◌, ℕ, Bool, true, false, List, [], Option, Some, None, Ok, length}
+use Rattle.name_encoder.proofs.Words.{slice_get, refl, sym, ap, ap₂, subst, arith, codes, decimal, nat_lt, tests, AllByRecursion, map-append, IsEvent}
+use Rattle.name_encoder.proofs.Words.{IsMask, IsTables, NoTwo, ComponentText, MaskText, Text, Digits, all-append, all-map, decimal-digits}
+use Rattle.name_encoder.proofs.Words.{str_eq_ignore_ascii_case, passed_over, Mods, Native, NameFault, Split, attribute_of, split, bits_of, Found}
+use Rattle.name_encoder.proofs.Words.{SaidAttribute, allowed_with, chosen, contradicts, event_allowed, event_fixed, fault_from, found_from, mods_of}
+use Rattle.name_encoder.proofs.Words.{named_event, named_found, named_from, names, native_of, native_or, native_unless, said_of, saids_of}
+use Rattle.name_encoder.proofs.Words.{umasks_fault, values_of, wanted_of, with_fixed, ReadsBack, canonical, free_mods, mods_text}
 use Rattle.name_encoder.specs.declared.fault.NameFault.TheVariants as name_fault
-use Rattle.name_encoder.specs.Split.{Split, attribute_of, split}
-use Rattle.name_encoder.specs.Flags.{bits_of}
-use Rattle.name_encoder.specs.Names.{Found, SaidAttribute, allowed_with, chosen, contradicts, event_allowed, event_fixed, fault_from, found_from, mods_of}
-use Rattle.name_encoder.specs.Names.{named_event, named_found, named_from, names, native_of, native_or, native_unless, said_of, saids_of, umasks_fault, values_of, wanted_of, with_fixed}
-use Rattle.name_encoder.specs.Canonical.{ReadsBack, canonical, free_mods, mods_text}
 use Rattle.name_encoder.proofs.Agreeing.{own-agrees}
 use Rattle.name_encoder.proofs.Bounds.{cmask-bound}
 use Rattle.name_encoder.proofs.Chosen.{Choice, choice-of, mods-own, named-own}

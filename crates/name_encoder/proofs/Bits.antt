@@ -1,14 +1,7 @@
 -- Flags as bits, from the last one on.
-use Rattle.std.proofs.Common.{◌≡◌, ◌+◌, ◌*◌, ◌<◌, ◌≤◌, ◌^◌, ◌∷◌, ℕ, zero, suc, List, [], Bool, true, false, map, length, get_or, drop, refl, arith}
-use Rattle.std.proofs.Math.Nat.{two-pow-succ}
-use Rattle.std.proofs.lemmas.Nat.{pow_pos}
-use Rattle.std.proofs.lemmas.List.{drop_more, drop_all, length-map}
-use mir.Val.{bool_byte}
-use Rattle.std.specs.Prelude.{not, if◌then◌else◌}
-use Rattle.std.specs.Int.RustNames.{bit_or}
-use Rattle.event_tables.specs.Tables.{CounterText, MaskText}
-use Rattle.name_encoder.specs.Flags.{bits_of, flag_bit}
-use Rattle.name_encoder.specs.Names.{programmable, values_of}
+use Rattle.name_encoder.proofs.Words.{◌≡◌, ◌+◌, ◌*◌, ◌<◌, ◌≤◌, ◌^◌, ◌∷◌, ℕ, zero, suc, List, [], Bool, true, false, map, length, get_or, drop, refl}
+use Rattle.name_encoder.proofs.Words.{arith, two-pow-succ, pow_pos, drop_more, drop_all, length-map, bool_byte, not, if◌then◌else◌, bit_or}
+use Rattle.name_encoder.proofs.Words.{CounterText, MaskText, bits_of, flag_bit, programmable, values_of}
 
 pub bits-none : (flags : List Bool) (i : ℕ) → length flags ≤ i → 0 ≡ bits_of (drop i flags)
 unfolding bits_of

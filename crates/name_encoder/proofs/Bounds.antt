@@ -1,11 +1,7 @@
 -- A counter mask that was read is a byte.
-use Rattle.std.proofs.Common.{◌≡◌, ◌<◌, ℕ, List, Option, Some, None, drop, find, refl, arith, nat_eq, codes, unwrap_or}
-use Rattle.std.specs.List.{starts_with}
-use Rattle.std.specs.Option.{option_map_or}
-use Rattle.std.proofs.lemmas.Bool.{cond_both}
-use Rattle.table_rows.specs.Texts.{Text, decimal_in, hex_in}
-use Rattle.table_rows.proofs.Ranges.{decimal_in-range, hex_in-range}
-use Rattle.name_encoder.specs.Names.{SaidAttribute, cmask, cmask_value, means, modifier, set_to, value_of}
+use Rattle.name_encoder.proofs.Words.{◌≡◌, ◌<◌, ℕ, List, Option, Some, None, drop, find, refl, arith, nat_eq, codes, unwrap_or, starts_with}
+use Rattle.name_encoder.proofs.Words.{option_map_or, cond_both, Text, decimal_in, hex_in, decimal_in-range, hex_in-range, SaidAttribute, cmask}
+use Rattle.name_encoder.proofs.Words.{cmask_value, means, modifier, set_to, value_of}
 
 pub value-bound : (v : Option Text) → unwrap_or (cmask_value v) 0 < 256
 unfolding cmask_value

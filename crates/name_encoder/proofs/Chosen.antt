@@ -1,26 +1,15 @@
 -- What the attributes of a canonical name choose, and what those of any name may choose.
-use Rattle.std.proofs.Common.{◌≡◌, ◌∙◌, ◌+◌, ◌<◌, ◌≤◌, ◌==◌, ◌&&◌, ◌∷◌, ◌++◌, ◌⊎◌, ℕ, zero, suc, Bool, true}
-use Rattle.std.proofs.Common.{false, List, [], Option, Some, None, length, find, slice_get, refl, sym, ap, ap₂, subst}
-use Rattle.std.proofs.Common.{arith, tests, nat_lt, decimal, inl, inr, unwrap_or, is_none, append_assoc, append-nil}
-use Rattle.std.specs.Prelude.{if◌then◌else◌}
-use Rattle.std.specs.List.{AllByRecursion, list_any}
-use Rattle.std.specs.Option.{option_map_or, option_or}
-use Rattle.std.proofs.lemmas.Bool.{cond_both, eq-eqb, eqb-true, ne_eqb, or_cases, or_left, or_parts, or_right}
-use Rattle.std.proofs.lemmas.List.{length-append, length-map}
-use Rattle.std.proofs.lemmas.List.Folds.{list_any-append}
-use Rattle.papi_base.proofs.Steps.{passed_over}
-use Rattle.table_rows.specs.Tables.{NoTwo}
-use Rattle.event_tables.specs.Tables.{MaskText}
-use Rattle.table_rows.specs.Texts.{Text}
-use Rattle.papi_base.specs.declared.native.Mods.{Mods}
-use Rattle.name_encoder.specs.declared.fault.NameFault.{NameFault}
+use Rattle.name_encoder.proofs.Words.{◌≡◌, ◌∙◌, ◌+◌, ◌<◌, ◌≤◌, ◌==◌, ◌&&◌, ◌∷◌, ◌++◌, ◌⊎◌, ℕ, zero, suc, Bool, true, false, List, [], Option, Some}
+use Rattle.name_encoder.proofs.Words.{None, length, find, slice_get, refl, sym, ap, ap₂, subst, arith, tests, nat_lt, decimal, inl, inr, unwrap_or}
+use Rattle.name_encoder.proofs.Words.{is_none, append_assoc, append-nil, if◌then◌else◌, AllByRecursion, list_any, option_map_or, option_or, cond_both}
+use Rattle.name_encoder.proofs.Words.{eq-eqb, eqb-true, ne_eqb, or_cases, or_left, or_parts, or_right, length-append, length-map, list_any-append}
+use Rattle.name_encoder.proofs.Words.{passed_over, NoTwo, MaskText, Text, Mods, NameFault, Meaning, Modifier, SaidAttribute, choices, chosen, clashes}
+use Rattle.name_encoder.proofs.Words.{cmask, edge, fault_from, flag_value, has_true, invert, kernel, mask, meaning_fault, means, mods_of, modifier}
+use Rattle.name_encoder.proofs.Words.{named_from, names_alone, names_mask, rank, row_alone, said_fault, same_meaning, set_to, user, value_of}
+use Rattle.name_encoder.proofs.Words.{or-false}
 use Rattle.name_encoder.specs.declared.fault.NameFault.TheVariants as name_fault
-use Rattle.name_encoder.specs.Names.{Meaning, Modifier, SaidAttribute, choices, chosen, clashes, cmask, edge, fault_from, flag_value}
-use Rattle.name_encoder.specs.Names.{has_true, invert, kernel, mask, meaning_fault, means, mods_of, modifier, named_from}
-use Rattle.name_encoder.specs.Names.{names_alone, names_mask, rank, row_alone, said_fault, same_meaning, set_to, user, value_of}
 use Rattle.name_encoder.proofs.Faultless.{AllFlags, Combine, cmask-back}
 use Rattle.name_encoder.proofs.Saids.{mask_saids, mod_said, mod_saids, said_if}
-use Rattle.table_rows.proofs.Texts.{or-false}
 
 -- ---- the named umasks of a canonical name
 

@@ -1,13 +1,8 @@
 -- A text that is cut at a mark.
-use Rattle.std.proofs.Common.{◌≡◌, ◌∙◌, ◌+◌, ◌-◌, ◌<◌, ◌≤◌, ◌∷◌, ◌++◌, ℕ, List, [], Option, Some, None, Bool, true, false, length, get_or}
-use Rattle.std.proofs.Common.{drop, take, refl, sym, ap, nat_eq, option_map, append_assoc, append-nil}
-use Rattle.std.proofs.lemmas.List.{drop_more, drop_all, take_more}
+use Rattle.name_encoder.proofs.Words.{◌≡◌, ◌∙◌, ◌+◌, ◌-◌, ◌<◌, ◌≤◌, ◌∷◌, ◌++◌, ℕ, List, [], Option, Some, None, Bool, true, false, length, get_or}
+use Rattle.name_encoder.proofs.Words.{drop, take, refl, sym, ap, nat_eq, option_map, append_assoc, append-nil, drop_more, drop_all, take_more, eq-eqb}
+use Rattle.name_encoder.proofs.Words.{eqb-true, ne_eqb, onto_first, slice_split, starts_with, Text, rest-whole, cut_at}
 use Rattle.std.specs.Prelude.{◌==◌, if◌then◌else◌}
-use Rattle.std.proofs.lemmas.Bool.{eq-eqb, eqb-true, ne_eqb}
-use Rattle.std.specs.List.{onto_first, slice_split, starts_with}
-use Rattle.table_rows.specs.Texts.{Text}
-use Rattle.table_rows.proofs.Splits.{rest-whole}
-use Rattle.name_encoder.specs.Split.{cut_at}
 
 -- the parts of a text after a front
 abbrev pub with_front : Text → Option (Text × Text) → Option (Text × Text)

@@ -1,24 +1,13 @@
 -- What a text names, by its found event, and that it fits the tables' shape.
-use Rattle.std.proofs.Common.{◌≡◌, ◌∙◌, ◌<◌, ◌≤◌, ◌^◌, ◌||◌, ℕ, Bool, List, [], Option, Some, None, Ok, Err, length, slice_get, refl, sym, ap, subst, arith, nat_lt}
-use Rattle.std.proofs.lemmas.List.{length-map}
-use Rattle.std.proofs.lemmas.Nat.{and_le_l}
-use Rattle.std.proofs.lemmas.Option.{slice_get-map, slice_get_within}
-use Rattle.std.proofs.lemmas.Bool.{cond_both}
+use Rattle.name_encoder.proofs.Words.{◌≡◌, ◌∙◌, ◌<◌, ◌≤◌, ◌^◌, ◌||◌, ℕ, Bool, List, [], Option, Some, None, Ok, Err, length, slice_get, refl, sym, ap}
+use Rattle.name_encoder.proofs.Words.{subst, arith, nat_lt, length-map, and_le_l, slice_get-map, slice_get_within, cond_both, bit_and, Text, IsTables}
+use Rattle.name_encoder.proofs.Words.{ComponentText, CounterText, shape_of, widths_of, Mods, Native, NameFault, Split, split, FitsShape, Found}
+use Rattle.name_encoder.proofs.Words.{allowed_with, chosen, event_allowed, event_fixed, fault_from, found_from, mods_of, named_event, named_found}
+use Rattle.name_encoder.proofs.Words.{named_from, names, native_of, native_or, native_unless, programmable, saids_of, SaidAttribute, umasks_fault}
+use Rattle.name_encoder.proofs.Words.{wanted_of, with_fixed, Attributes, all_given, native_next, nothing}
 use Rattle.std.specs.Prelude.{IfOk, Result, option_map}
-use Rattle.std.specs.Int.RustNames.{bit_and}
-use Rattle.table_rows.specs.Texts.{Text}
-use Rattle.event_tables.specs.Kept.{IsTables}
-use Rattle.event_tables.specs.Tables.{ComponentText, CounterText, shape_of, widths_of}
-use Rattle.papi_base.specs.declared.native.Mods.{Mods}
-use Rattle.papi_base.specs.declared.native.Native.{Native}
-use Rattle.name_encoder.specs.declared.fault.NameFault.{NameFault}
 use Rattle.name_encoder.specs.declared.fault.NameFault.TheVariants as name_fault
-use Rattle.name_encoder.specs.Split.{Split, split}
-use Rattle.name_encoder.specs.Names.{FitsShape, Found, allowed_with, chosen, event_allowed, event_fixed, fault_from, found_from, mods_of, named_event, named_found}
-use Rattle.name_encoder.specs.Names.{named_from, names, native_of, native_or, native_unless, programmable, saids_of, SaidAttribute, umasks_fault, wanted_of, with_fixed}
 use Rattle.name_encoder.proofs.Fixing.{common-less}
-use Rattle.name_encoder.specs.declared.attribute.Attributes.{Attributes}
-use Rattle.name_encoder.specs.Judged.{all_given, native_next, nothing}
 use Rattle.name_encoder.proofs.Judging.{named-given}
 use Rattle.name_encoder.proofs.Finds.{component-found, found-kept}
 

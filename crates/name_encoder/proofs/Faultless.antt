@@ -1,18 +1,11 @@
 -- The attributes of a canonical name have no fault, and choose what the native has.
-use Rattle.std.proofs.Common.{◌≡◌, ◌∙◌, ◌+◌, ◌<◌, ◌≤◌, ◌==◌, ◌&&◌, ◌∷◌, ◌++◌, ℕ, Bool, true, false, List, [], Option, Some, None, refl, sym, ap}
-use Rattle.std.proofs.Common.{subst, arith, nat_lt, nat_eq, decimal, append_assoc, append-nil, is_none}
-use Rattle.std.specs.Prelude.{⊤}
-use Rattle.std.specs.List.{AllByRecursion, list_any}
-use Rattle.std.specs.Option.{option_map_or}
-use Rattle.std.proofs.lemmas.Bool.{agree_below, agree_below_at, eqb-true, ne_eqb}
-use Rattle.event_tables.specs.Tables.{MaskText}
-use Rattle.table_rows.specs.Texts.{Text, decimal_in, hex_in, is_decimal, is_numeral}
-use Rattle.table_rows.proofs.Texts.{all-append, all-map}
-use Rattle.papi_base.specs.declared.native.Mods.{Mods}
-use Rattle.name_encoder.specs.Names.{Meaning, Modifier, SaidAttribute, clashes, cmask, cmask_value, edge, fault_from, flag_value, invert, kernel, mask, means}
-use Rattle.name_encoder.specs.Names.{modifier, names_alone, names_mask, rank, row_alone, said_fault, same_meaning, user, value_of}
+use Rattle.name_encoder.proofs.Words.{◌≡◌, ◌∙◌, ◌+◌, ◌<◌, ◌≤◌, ◌==◌, ◌&&◌, ◌∷◌, ◌++◌, ℕ, Bool, true, false, List, [], Option, Some, None, refl, sym}
+use Rattle.name_encoder.proofs.Words.{ap, subst, arith, nat_lt, nat_eq, decimal, append_assoc, append-nil, is_none, ⊤, AllByRecursion, list_any}
+use Rattle.name_encoder.proofs.Words.{option_map_or, agree_below, agree_below_at, eqb-true, ne_eqb, MaskText, Text, decimal_in, hex_in, is_decimal}
+use Rattle.name_encoder.proofs.Words.{is_numeral, all-append, all-map, Mods, Meaning, Modifier, SaidAttribute, clashes, cmask, cmask_value, edge}
+use Rattle.name_encoder.proofs.Words.{fault_from, flag_value, invert, kernel, mask, means, modifier, names_alone, names_mask, rank, row_alone}
+use Rattle.name_encoder.proofs.Words.{said_fault, same_meaning, user, value_of, digits}
 use Rattle.name_encoder.proofs.Saids.{mask_saids, mod_said, mod_saids, said_if}
-use Rattle.std.specs.Fmt.{digits}
 
 -- ---- umasks
 

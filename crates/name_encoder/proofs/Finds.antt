@@ -1,17 +1,8 @@
 -- An event that was found is found again by its component's pmu and its name.
-use Rattle.std.proofs.Common.{◌≡◌, ◌∙◌, ◌+◌, ◌&&◌, ◌∷◌, ℕ, suc, true, false, List, [], Option, Some, None, slice_get, length, refl, sym, ap, subst, arith}
-use Rattle.std.specs.List.{AllByRecursion}
-use Rattle.std.specs.Option.{option_or}
-use Rattle.std.specs.Str.{str_eq_ignore_ascii_case, str_to_ascii_lowercase}
-use Rattle.std.proofs.lemmas.Bool.{cond_both}
-use Rattle.std.proofs.lemmas.Slice.Eq.{bytes_eq-Decides}
-use Rattle.table_rows.proofs.Texts.{given}
-use Rattle.event_tables.specs.Kept.{IsComponent, IsEvent}
-use Rattle.table_rows.specs.Tables.{NoTwo}
-use Rattle.event_tables.specs.Tables.{ComponentText, EventText}
-use Rattle.table_rows.specs.Texts.{Text}
-use Rattle.name_encoder.specs.Split.{Split}
-use Rattle.name_encoder.specs.Names.{Found, agrees, choice, event_from, found_from}
+use Rattle.name_encoder.proofs.Words.{◌≡◌, ◌∙◌, ◌+◌, ◌&&◌, ◌∷◌, ℕ, suc, true, false, List, [], Option, Some, None, slice_get, length, refl, sym, ap}
+use Rattle.name_encoder.proofs.Words.{subst, arith, AllByRecursion, option_or, str_eq_ignore_ascii_case, str_to_ascii_lowercase, cond_both}
+use Rattle.name_encoder.proofs.Words.{bytes_eq-Decides, given, IsComponent, IsEvent, NoTwo, ComponentText, EventText, Text, Split, Found, agrees}
+use Rattle.name_encoder.proofs.Words.{choice, event_from, found_from}
 
 pub same-self : (t : Text) → str_eq_ignore_ascii_case t t ≡ true
 same-self t = (bytes_eq-Decides (str_to_ascii_lowercase t) (str_to_ascii_lowercase t)).1 refl

@@ -1,15 +1,7 @@
 -- What the chosen umasks fix and allow, umask by umask, and that a canonical name does not say what they fix.
-use Rattle.std.proofs.Common.{◌≡◌, ◌+◌, ◌*◌, ◌/◌, ◌%◌, ◌<◌, ◌≤◌, ◌&&◌, ◌||◌, ◌∷◌, ℕ, Bool, true, false, List, [], Option, Some, None}
-use Rattle.std.proofs.Common.{length, get_or, drop, map, refl, ap, arith, nat_lt}
-use Rattle.std.proofs.lemmas.List.{drop_more, drop_all}
-use Rattle.std.proofs.lemmas.Nat.{and_le_l}
-use Rattle.std.specs.Prelude.{if◌then◌else◌, not}
-use Rattle.event_tables.specs.Tables.{MaskText}
-use Rattle.event_tables.specs.declared.component.FixedMods.{FixedMods}
-use Rattle.papi_base.specs.declared.native.Mods.{Mods}
-use Rattle.name_encoder.specs.Canonical.{flags_in, free_mods}
-use Rattle.name_encoder.specs.Flags.{bits_of}
-use Rattle.name_encoder.specs.Names.{both_fixed, common_of, fixed_if, fixed_of, met, with_fixed}
+use Rattle.name_encoder.proofs.Words.{◌≡◌, ◌+◌, ◌*◌, ◌/◌, ◌%◌, ◌<◌, ◌≤◌, ◌&&◌, ◌||◌, ◌∷◌, ℕ, Bool, true, false, List, [], Option, Some, None, length}
+use Rattle.name_encoder.proofs.Words.{get_or, drop, map, refl, ap, arith, nat_lt, drop_more, drop_all, and_le_l, if◌then◌else◌, not, MaskText}
+use Rattle.name_encoder.proofs.Words.{FixedMods, Mods, flags_in, free_mods, bits_of, both_fixed, common_of, fixed_if, fixed_of, met, with_fixed}
 
 -- ---- umask by umask
 

@@ -1,29 +1,16 @@
 -- Attributes that are judged one by one give what the definition says of all of them.
-use Rattle.std.proofs.Common.{◌≡◌, ◌∙◌, ◌+◌, ◌<◌, ◌≤◌, ◌==◌, ◌&&◌, ◌||◌, ◌∷◌, ◌++◌, ℕ, zero, suc, Bool, true, false}
-use Rattle.std.proofs.Common.{List, [], Option, Some, None, Ok, Err, Result, length, find, take, option_map, slice_get}
-use Rattle.std.proofs.Common.{refl, sym, ap, ap₂, subst, arith, nat_lt, unwrap_or, is_none, append_assoc, append-nil}
-use Rattle.std.proofs.Math.ListN.{set}
-use Rattle.std.proofs.Math.Seq.{take-set-lt}
-use Rattle.std.proofs.lemmas.Bool.{eq-eqb, eqb-true, ne_eqb, or_right}
-use Rattle.std.proofs.lemmas.List.{length-set}
-use Rattle.std.proofs.lemmas.List.Folds.{find-append, list_any-append}
-use Rattle.std.specs.Prelude.{⊤, if◌then◌else◌, is_some}
-use Rattle.std.specs.List.{AllByRecursion, list_any}
-use Rattle.std.specs.Option.{option_map_or, option_or}
-use Rattle.table_rows.proofs.Texts.{or-false}
-use Rattle.table_rows.specs.Texts.{Text}
-use Rattle.event_tables.specs.Tables.{MaskText}
-use Rattle.papi_base.specs.declared.native.Mods.{Mods}
-use Rattle.name_encoder.specs.declared.attribute.Attributes.{Attributes}
-use Rattle.name_encoder.specs.declared.fault.NameFault.{NameFault}
+use Rattle.name_encoder.proofs.Words.{◌≡◌, ◌∙◌, ◌+◌, ◌<◌, ◌≤◌, ◌==◌, ◌&&◌, ◌||◌, ◌∷◌, ◌++◌, ℕ, zero, suc, Bool, true, false, List, [], Option, Some}
+use Rattle.name_encoder.proofs.Words.{None, Ok, Err, Result, length, find, take, option_map, slice_get, refl, sym, ap, ap₂, subst, arith, nat_lt}
+use Rattle.name_encoder.proofs.Words.{unwrap_or, is_none, append_assoc, append-nil, set, take-set-lt, eq-eqb, eqb-true, ne_eqb, or_right, length-set}
+use Rattle.name_encoder.proofs.Words.{find-append, list_any-append, ⊤, if◌then◌else◌, is_some, AllByRecursion, list_any, option_map_or, option_or}
+use Rattle.name_encoder.proofs.Words.{or-false, Text, MaskText, Mods, Attributes, NameFault, Found, Meaning, Modifier, SaidAttribute, Wanted, chosen}
+use Rattle.name_encoder.proofs.Words.{clashes, cmask, edge, fault_from, given_to, invert, is_set, kernel, mask, meaning_of, means, mods_of, modifier}
+use Rattle.name_encoder.proofs.Words.{named_event, named_from, names_alone, names_mask, native_chosen, native_or, rank, row_alone, said_fault}
+use Rattle.name_encoder.proofs.Words.{saids_of, set_to, user, value_of, wanted_of, attribute_of, all_given, flags_given, given_next, is_named}
+use Rattle.name_encoder.proofs.Words.{mask_given, mods_given, modifier_given, native_next, nothing, said_given, value_given, wanted_given, with_mask}
+use Rattle.name_encoder.proofs.Words.{with_value}
 use Rattle.name_encoder.specs.declared.fault.NameFault.TheVariants as name_fault
-use Rattle.name_encoder.specs.Names.{Found, Meaning, Modifier, SaidAttribute, Wanted, chosen, clashes, cmask, edge, fault_from, given_to, invert, is_set}
-use Rattle.name_encoder.specs.Names.{kernel, mask, meaning_of, means, mods_of, modifier, named_event, named_from, names_alone}
-use Rattle.name_encoder.specs.Names.{names_mask, native_chosen, native_or, rank, row_alone, said_fault, saids_of, set_to, user, value_of, wanted_of}
-use Rattle.name_encoder.specs.Split.{attribute_of}
 use Rattle.name_encoder.proofs.Steps.{meaning-row}
-use Rattle.name_encoder.specs.Judged.{all_given, flags_given, given_next, is_named, mask_given, mods_given, modifier_given}
-use Rattle.name_encoder.specs.Judged.{native_next, nothing, said_given, value_given, wanted_given, with_mask, with_value}
 
 abbrev said : Option Meaning → Option Text → SaidAttribute
 said o v = record { meaning = o; value = v }

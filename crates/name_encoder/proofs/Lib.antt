@@ -15,3 +15,4 @@ pub mod Chosen
 pub mod Back
 pub mod Bounds
 pub mod Encoded
+pub mod Words

@@ -1,15 +1,9 @@
 -- The worked names over the lab unit.
-use Rattle.std.proofs.Common.{◌≡◌, ℕ, List, [], ◌∷◌, Ok, Err, None, Result, Bool, true, false, refl, codes, map}
-use Rattle.event_tables.specs.Tables.{ComponentText, CounterText, EventText, MaskText}
-use Rattle.table_rows.specs.Texts.{Text, decimal_in, hex_in, is_decimal, is_numeral}
-use Rattle.name_encoder.specs.Flags.{bits_of}
-use Rattle.papi_base.specs.declared.native.Native.{Native}
-use Rattle.name_encoder.specs.declared.fault.NameFault.{NameFault}
+use Rattle.name_encoder.proofs.Words.{◌≡◌, ℕ, List, [], ◌∷◌, Ok, Err, None, Result, Bool, true, false, refl, codes, map, ComponentText, CounterText}
+use Rattle.name_encoder.proofs.Words.{EventText, MaskText, Text, decimal_in, hex_in, is_decimal, is_numeral, bits_of, Native, NameFault, attribute_of}
+use Rattle.name_encoder.proofs.Words.{cut_at, split, cmask_value, common_of, event_from, fault_from, fixed_of, flag_value, found_from, meaning_of}
+use Rattle.name_encoder.proofs.Words.{modifier_of, named_from, names, set_to, values_of, canonical, code64, flags_in, masks_text, mods_text, digits}
 use Rattle.name_encoder.specs.declared.fault.NameFault.TheVariants as name_fault
-use Rattle.name_encoder.specs.Split.{attribute_of, cut_at, split}
-use Rattle.name_encoder.specs.Names.{cmask_value, common_of, event_from, fault_from, fixed_of, flag_value, found_from, meaning_of, modifier_of, named_from, names, set_to, values_of}
-use Rattle.name_encoder.specs.Canonical.{canonical, code64, flags_in, masks_text, mods_text}
-use Rattle.std.specs.Fmt.{digits}
 
 unfoldable pub on_names : Unit {0}
 unfolding bits_of decimal_in hex_in is_decimal is_numeral attribute_of cut_at split cmask_value common_of event_from fault_from fixed_of flag_value flags_in found_from meaning_of modifier_of named_from names set_to values_of canonical code64 masks_text mods_text digits

@@ -1,19 +1,9 @@
 -- What the attributes of a canonical name say.
-use Rattle.std.proofs.Common.{◌≡◌, ◌∙◌, ◌+◌, ◌*◌, ◌/◌, ◌%◌, ◌∷◌, ◌++◌, ℕ, Bool, true, false, List, [], Option, Some, None, length, refl, sym}
-use Rattle.std.proofs.Common.{ap, ap₂, subst, arith, nat_lt, decimal, codes, append_assoc, append-nil}
-use Rattle.std.specs.Prelude.{if◌then◌else◌}
-use Rattle.std.specs.List.{AllByRecursion, position_from}
-use Rattle.std.specs.Str.{str_eq_ignore_ascii_case, str_to_ascii_lowercase}
-use Rattle.std.proofs.lemmas.List.{length-append, map-append}
-use Rattle.event_tables.specs.Kept.{IsMask}
-use Rattle.table_rows.specs.Tables.{NoTwo}
-use Rattle.event_tables.specs.Tables.{MaskText}
-use Rattle.table_rows.specs.Texts.{Text}
-use Rattle.name_encoder.specs.Flags.{bits_of}
-use Rattle.papi_base.specs.declared.native.Mods.{Mods}
-use Rattle.name_encoder.specs.Split.{attribute_of, cut_at}
-use Rattle.name_encoder.specs.Names.{Modifier, SaidAttribute, cmask, edge, invert, kernel, mask, meaning_of, modifier, modifier_of, said_of, saids_of, user}
-use Rattle.name_encoder.specs.Canonical.{masks_text, mods_text, text_if}
+use Rattle.name_encoder.proofs.Words.{◌≡◌, ◌∙◌, ◌+◌, ◌*◌, ◌/◌, ◌%◌, ◌∷◌, ◌++◌, ℕ, Bool, true, false, List, [], Option, Some, None, length, refl, sym}
+use Rattle.name_encoder.proofs.Words.{ap, ap₂, subst, arith, nat_lt, decimal, codes, append_assoc, append-nil, if◌then◌else◌, AllByRecursion}
+use Rattle.name_encoder.proofs.Words.{position_from, str_eq_ignore_ascii_case, str_to_ascii_lowercase, length-append, map-append, IsMask, NoTwo}
+use Rattle.name_encoder.proofs.Words.{MaskText, Text, bits_of, Mods, attribute_of, cut_at, Modifier, SaidAttribute, cmask, edge, invert, kernel, mask}
+use Rattle.name_encoder.proofs.Words.{meaning_of, modifier, modifier_of, said_of, saids_of, user, masks_text, mods_text, text_if}
 use Rattle.name_encoder.proofs.Finds.{same-self}
 use Rattle.name_encoder.proofs.Splits.{attribute-word, name-signs, tail-append, tail_text}
 

@@ -1,16 +1,9 @@
 -- An event is found by its row, and searched component by component.
-use Rattle.std.proofs.Common.{◌≡◌, ◌∙◌, ◌+◌, ◌<◌, ◌≤◌, ◌∷◌, ℕ, suc, List, [], Option, Some, None, Bool, true, false, length, get_or, drop, refl, sym, ap, subst, arith}
-use Rattle.std.proofs.lemmas.List.{drop_more, drop_all}
-use Rattle.std.proofs.lemmas.Option.{slice_get-get_or}
+use Rattle.name_encoder.proofs.Words.{◌≡◌, ◌∙◌, ◌+◌, ◌<◌, ◌≤◌, ◌∷◌, ℕ, suc, List, [], Option, Some, None, Bool, true, false, length, get_or, drop}
+use Rattle.name_encoder.proofs.Words.{refl, sym, ap, subst, arith, drop_more, drop_all, slice_get-get_or, position_from, option_and_then, option_or}
+use Rattle.name_encoder.proofs.Words.{str_eq_ignore_ascii_case, str_to_ascii_lowercase, passed_over, Text, ComponentText, EventText, event_at}
+use Rattle.name_encoder.proofs.Words.{event_of_lower, row_of_lower, Split, Found, agrees, choice, event_from, found_from}
 use Rattle.std.specs.Prelude.{◌&&◌, if◌then◌else◌, option_map, slice_get}
-use Rattle.std.specs.List.{position_from}
-use Rattle.std.specs.Option.{option_and_then, option_or}
-use Rattle.std.specs.Str.{str_eq_ignore_ascii_case, str_to_ascii_lowercase}
-use Rattle.papi_base.proofs.Steps.{passed_over}
-use Rattle.table_rows.specs.Texts.{Text}
-use Rattle.event_tables.specs.Tables.{ComponentText, EventText, event_at, event_of_lower, row_of_lower}
-use Rattle.name_encoder.specs.Split.{Split}
-use Rattle.name_encoder.specs.Names.{Found, agrees, choice, event_from, found_from}
 
 abbrev found : ℕ → ℕ → ComponentText → EventText → Found
 found comp row c e = record { comp = comp; row = row; component = c; event = e }

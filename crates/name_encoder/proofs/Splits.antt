@@ -1,9 +1,7 @@
 -- The parts of a text that was put together from words.
-use Rattle.std.proofs.Common.{◌≡◌, ◌∙◌, ◌==◌, ◌∷◌, ◌++◌, ℕ, true, false, List, [], Option, Some, None, refl, sym, ap, arith, tests, nat_eq, append_assoc, append-nil, option_map}
-use Rattle.std.specs.List.{AllByRecursion, list_all, slice_split}
-use Rattle.std.proofs.lemmas.Bool.{and_parts}
-use Rattle.table_rows.specs.Texts.{Text, is_name, is_name_byte}
-use Rattle.name_encoder.specs.Split.{attribute_of, cut_at, split}
+use Rattle.name_encoder.proofs.Words.{◌≡◌, ◌∙◌, ◌==◌, ◌∷◌, ◌++◌, ℕ, true, false, List, [], Option, Some, None, refl, sym, ap, arith, tests, nat_eq}
+use Rattle.name_encoder.proofs.Words.{append_assoc, append-nil, option_map, AllByRecursion, list_all, slice_split, and_parts, Text, is_name}
+use Rattle.name_encoder.proofs.Words.{is_name_byte, attribute_of, cut_at, split}
 
 -- a byte of a word: no `:`
 abbrev pub InWord : ℕ → Type 0

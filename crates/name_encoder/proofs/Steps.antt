@@ -1,16 +1,9 @@
 -- Attributes one by one.
-use Rattle.std.proofs.Common.{◌≡◌, ◌<◌, ◌∷◌, ℕ, List, [], Option, Some, None, length, option_map, refl, arith}
-use Rattle.std.specs.Option.{option_or}
+use Rattle.name_encoder.proofs.Words.{◌≡◌, ◌<◌, ◌∷◌, ℕ, List, [], Option, Some, None, length, option_map, refl, arith, option_or}
+use Rattle.name_encoder.proofs.Words.{str_eq_ignore_ascii_case, str_to_ascii_lowercase, Text, MaskText, position_from-lt, Attributes, attribute_of}
+use Rattle.name_encoder.proofs.Words.{mask_row, meaning_of, modifier_of, said_of, saids_of, all_given, given_next, said_given}
 use Rattle.std.specs.Prelude.{Ok}
-use Rattle.std.specs.Str.{str_eq_ignore_ascii_case, str_to_ascii_lowercase}
-use Rattle.table_rows.specs.Texts.{Text}
-use Rattle.event_tables.specs.Tables.{MaskText}
-use Rattle.event_tables.proofs.Searches.{position_from-lt}
-use Rattle.name_encoder.specs.declared.attribute.Attributes.{Attributes}
-use Rattle.name_encoder.specs.Split.{attribute_of}
 use Rattle.name_encoder.specs.Names as Names
-use Rattle.name_encoder.specs.Names.{mask_row, meaning_of, modifier_of, said_of, saids_of}
-use Rattle.name_encoder.specs.Judged.{all_given, given_next, said_given}
 
 -- a umask's row is one of the table's
 pub meaning-row : (masks : List MaskText) (name : Text) (row : ℕ) → meaning_of masks name ≡ Some (Names.mask row) → row < length masks

@@ -1,17 +1,9 @@
 -- A text that is not a name is the name of no event.
-use Rattle.std.proofs.Common.{◌≡◌, ◌∙◌, ◌+◌, ◌<◌, ◌≤◌, ◌∷◌, ℕ, List, [], None, Bool, true, false, length, refl, sym, ap, arith}
-use Rattle.std.proofs.lemmas.Bool.{and_from, and_parts, cond_both, false_from_ne_true, le-leb, ltb-false, ltb-true}
-use Rattle.std.proofs.lemmas.List.{length-map}
-use Rattle.std.proofs.lemmas.Slice.Eq.{bytes_eq-Decides}
-use Rattle.std.specs.Char.{to_ascii_lowercase}
-use Rattle.std.specs.List.{AllByRecursion, list_all}
+use Rattle.name_encoder.proofs.Words.{◌≡◌, ◌∙◌, ◌+◌, ◌<◌, ◌≤◌, ◌∷◌, ℕ, List, [], None, Bool, true, false, length, refl, sym, ap, arith, and_from}
+use Rattle.name_encoder.proofs.Words.{and_parts, cond_both, false_from_ne_true, le-leb, ltb-false, ltb-true, length-map, bytes_eq-Decides}
+use Rattle.name_encoder.proofs.Words.{to_ascii_lowercase, AllByRecursion, list_all, str_eq_ignore_ascii_case, str_to_ascii_lowercase, Text, is_name}
+use Rattle.name_encoder.proofs.Words.{is_name_byte, IsComponent, IsEvent, ComponentText, EventText, Split, agrees, choice, event_from, found_from}
 use Rattle.std.specs.Prelude.{◌&&◌, ◌||◌, ◌==◌, if◌then◌else◌, nat_le, nat_lt}
-use Rattle.std.specs.Str.{str_eq_ignore_ascii_case, str_to_ascii_lowercase}
-use Rattle.table_rows.specs.Texts.{Text, is_name, is_name_byte}
-use Rattle.event_tables.specs.Kept.{IsComponent, IsEvent}
-use Rattle.event_tables.specs.Tables.{ComponentText, EventText}
-use Rattle.name_encoder.specs.Split.{Split}
-use Rattle.name_encoder.specs.Names.{agrees, choice, event_from, found_from}
 
 -- ---- a name in another case is a name
 

@@ -1,10 +1,6 @@
 -- The handle and its parts own what a box at the same types owns.
-use mir.Syntax.{impl, tnil, dnil}
-use mathlib.Core.List.{[]}
-use denote.Signature.{Slot, plain}
-use Rattle.std_alloc.proofs.BoxSteps.Form.{Bx}
+use Rattle.papi_c.proofs.Words.{impl, tnil, dnil, [], Slot, plain, Bx, ghosts, dict}
 use Rattle.std_heap.specs.contracts.Global as Heap
-use Rattle.std_heap.specs.contracts.GlobalAllocator.TheImpl.{ghosts, dict}
 use Rattle.std_heap.proofs.Global.TheLaws as heap
 use Rattle.papi_calls.specs.contracts.library.Library as Library
 use Rattle.papi_calls.proofs.library.Library.TheLaws as library

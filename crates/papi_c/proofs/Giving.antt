@@ -1,16 +1,10 @@
 -- Values that a call wrote where they belong.
 use Rattle.std.proofs.Common.{◌≡◌, ◌∙◌, ℕ, zero, suc, List, [], ◌∷◌, ◌++◌, ap, refl, subst, sym, length, take}
-use Rattle.std.specs.Prelude.{ℤ, IfErr, IfOk, OnErr, OnOk, Result, Ok, Err}
-use Rattle.papi_base.specs.Codes.{number_of}
-use Rattle.papi_base.specs.declared.code.Code.{Code}
+use Rattle.papi_c.proofs.Words.{ℤ, IfErr, IfOk, OnErr, OnOk, Result, Ok, Err, number_of, Code, Made, LibraryView, Call, reply_of, AreGiven}
+use Rattle.papi_c.proofs.Words.{GaveValues, code_of, count_of}
 use Rattle.papi_base.specs.declared.code.Code.TheVariants as papi
-use Rattle.papi_calls.specs.Calls.{Made}
-use Rattle.papi_calls.specs.Libraries.{LibraryView}
-use Rattle.session_model.specs.CallTypes.{Call}
 use Rattle.session_model.specs.declared.reply.Body.TheVariants as body
 use Rattle.session_model.specs.Replies.{plain}
-use Rattle.thread_core.specs.Following.{reply_of}
-use Rattle.papi_c.specs.Called.{AreGiven, GaveValues, code_of, count_of}
 
 take-none : (n : ℕ) (xs : List ℤ) → xs ≡ [] → take n xs ≡ []
 take-none zero xs e = refl

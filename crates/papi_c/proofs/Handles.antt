@@ -1,7 +1,6 @@
 -- A call that changes nothing.
 use Rattle.std.proofs.Common.{◌≡◌, Option, Some, subst, sym}
-use Rattle.papi_calls.specs.Libraries.{LibraryView}
-use Rattle.papi_c.specs.Through.{Through}
+use Rattle.papi_c.proofs.Words.{LibraryView, Through}
 
 -- the library is put back as it was
 pub put_back : (Holds : LibraryView → LibraryView → Type 0) (Shut : Type 0) (before after : Option LibraryView) (at v : LibraryView) → at ≡ v → Some v ≡ before → after ≡ Some v → Holds at at

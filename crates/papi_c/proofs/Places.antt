@@ -1,7 +1,6 @@
 -- Arrays that are filled from the front.
 use Rattle.std.proofs.Common.{◌≡◌, ◌∙◌, ◌<◌, ◌+◌, ℕ, List, [], ◌∷◌, ◌++◌, Some, ap, arith, drop, length, map, set, slice_get, sym, take}
-use Rattle.std.proofs.lemmas.List.{drop-drop, drop-set-lt, map-append, take_more_set}
-use Rattle.papi_base.proofs.Steps.{take_at}
+use Rattle.papi_c.proofs.Words.{drop-drop, drop-set-lt, map-append, take_more_set, take_at}
 
 -- one item more at the end of what is written
 pub taken_on : {X : Type 0} (xs out : List X) (i : ℕ) (x : X) → i < length out → take i out ≡ take i xs → slice_get xs i ≡ Some x

@@ -1,17 +1,7 @@
 -- A call that has said what it has to say, or nothing, has carried out its words.
-use Rattle.std.proofs.Common.{◌≡◌, ℕ, List, [], Option, Some, None, Ok, Err, refl, sym, ap, append-nil, subst}
-use Rattle.std.proofs.Math.Nat.{zero-sub}
-use Rattle.papi_base.specs.Outside.{appended}
-use Rattle.overflow_dispatch.specs.declared.handler.Note.{Note}
-use Rattle.overflow_dispatch.specs.Notes.{EachGrown}
-use Rattle.tool_words.specs.Form.{form}
-use Rattle.papi_tools.specs.Carried.{CarriesOut, CarriesOutAndTells, CarriesOutOver}
-use Rattle.papi_tools.specs.Looking.{FilesSeen, SaysNo, Shows, SinkSeen, StaysHeld}
-use Rattle.papi_tools.specs.Openings.{ForSome, Openings}
-use Rattle.papi_tools.specs.Saying.{HasSinkCause, Says}
-use Rattle.papi_tools.specs.Verdict.{IsSettledAs, verdict, verdict_for}
-use Rattle.papi_tools.specs.declared.said.Said.{Said}
-use Rattle.papi_tools.specs.declared.status.Status.{Status}
+use Rattle.papi_tools.proofs.Words.{◌≡◌, ℕ, List, [], Option, Some, None, Ok, Err, refl, sym, ap, append-nil, subst, zero-sub, appended, Note}
+use Rattle.papi_tools.proofs.Words.{EachGrown, form, CarriesOut, CarriesOutAndTells, CarriesOutOver, FilesSeen, SaysNo, Shows, SinkSeen, StaysHeld}
+use Rattle.papi_tools.proofs.Words.{ForSome, Openings, HasSinkCause, Says, IsSettledAs, verdict, verdict_for, Said, Status}
 use Rattle.papi_tools.specs.declared.status.Status.TheVariants as status
 use Rattle.papi_tools.proofs.FindingLemmas.{some_openings}
 use Rattle.papi_tools.proofs.HoldingLemmas.{same_held}

@@ -1,16 +1,7 @@
 -- How the status of a call has come about, by the call's contract.
-use Rattle.std.proofs.Common.{◌≡◌, ◌≢◌, ◌<◌, ◌⊎◌, ℕ, List, Option, refl, arith, inl, inr}
-use Rattle.papi_base.specs.Outside.{Rose, next_count}
-use Rattle.tool_words.specs.Form.{form}
-use Rattle.papi_tools.specs.Causes.{CausesAreShown}
-use Rattle.papi_tools.specs.Looking.{SaysNo, Shows}
-use Rattle.papi_tools.specs.Saying.{HasSinkCause, IsJudged, Says, SaysAll}
-use Rattle.papi_tools.specs.Status.{status_of}
-use Rattle.papi_tools.specs.Verdict.{verdict}
-use Rattle.papi_tools.specs.declared.said.Said.{Said}
-use Rattle.papi_tools.specs.declared.status.Outcome.{Outcome}
+use Rattle.papi_tools.proofs.Words.{◌≡◌, ◌≢◌, ◌<◌, ◌⊎◌, ℕ, List, Option, refl, arith, inl, inr, Rose, next_count, form, CausesAreShown, SaysNo, Shows}
+use Rattle.papi_tools.proofs.Words.{HasSinkCause, IsJudged, Says, SaysAll, status_of, verdict, Said, Outcome, Status}
 use Rattle.papi_tools.specs.declared.status.Outcome.TheVariants as outcome
-use Rattle.papi_tools.specs.declared.status.Status.{Status}
 use Rattle.papi_tools.specs.declared.status.Status.TheVariants as status
 
 -- a no may be said, and a failed read shows in the counts

@@ -1,18 +1,9 @@
 -- A fault among the marks is one among the replies.
 use Rattle.std.proofs.Common.{◌≡◌, ◌<◌, ◌==◌, ℕ, suc, Bool, true, false, List, [], ◌∷◌, map, filter, Option, Some, None, refl, sym, ◌∙◌, arith, if◌then◌else◌}
-use Rattle.std.specs.List.{Any, list_any}
-use Rattle.std.proofs.lemmas.List.Folds.{Any-from_list_any}
-use Rattle.std.proofs.lemmas.List.FromFn.{get_or-map-range_with_len, length-map-range_with_len}
-use Rattle.session_model.specs.declared.reply.Ended.{Ended}
-use Rattle.session_model.specs.declared.reply.Ended.TheVariants.{Fault}
-use Rattle.session_model.specs.World.{first_met, met_in, met_mark}
-use Rattle.thread_session.specs.Faults.{IsFaultBody, IsFaultReply}
-use Rattle.session_model.specs.declared.reply.Body.{Body}
+use Rattle.papi_tools.proofs.Words.{Any, list_any, Any-from_list_any, get_or-map-range_with_len, length-map-range_with_len, Ended, Fault, first_met}
+use Rattle.papi_tools.proofs.Words.{met_in, met_mark, IsFaultBody, IsFaultReply, Body, met_by, ReplyLine, mark_at, marks_in, is_bad, is_fault}
+use Rattle.papi_tools.proofs.Words.{outcome_at}
 use Rattle.session_model.specs.declared.reply.Body.TheVariants as body
-use Rattle.session_model.specs.World.{met_by}
-use Rattle.thread_registry.specs.declared.runner.result.ReplyLine.{ReplyLine}
-use Rattle.thread_registry.specs.Marks.{mark_at, marks_in}
-use Rattle.papi_tools.specs.Marks.{is_bad, is_fault, outcome_at}
 use Rattle.papi_tools.specs.declared.status.Outcome.TheVariants.{Whole, No, Refused, ReadFault}
 
 -- some reply says that the source failed

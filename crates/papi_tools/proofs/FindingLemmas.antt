@@ -1,14 +1,10 @@
 -- Steps that open files, one after the other: what their openings can have found.
-use Rattle.std.proofs.Common.{◌≡◌, ℕ, true, false, List, [], Option, Some, None, IfSome, IsSome, Result, Ok, Err, refl, sym, ap, ◌∙◌, subst}
-use Rattle.std.specs.Option.{option_map}
+use Rattle.papi_tools.proofs.Words.{◌≡◌, ℕ, true, false, List, [], Option, Some, None, IfSome, IsSome, Result, Ok, Err, refl, sym, ap, ◌∙◌, subst}
+use Rattle.papi_tools.proofs.Words.{option_map, OpenFail, Absent, Answers, ByName, CanGive, CanOpen, Ends, Failing, First, ForSome, Is, Leads, Open}
+use Rattle.papi_tools.proofs.Words.{Openings, Stops, and_then, found, opened, tape_under, Refusal, NoSuchFile, CannotRead, Stop}
 use Rattle.papi_base.specs.Outside as Outside
 use Rattle.papi_base.specs.Outside.{AnswersOpening, Tape, Held, fails_next, tape_of}
-use Rattle.papi_base.specs.declared.outside.OpenFail.{OpenFail}
 use Rattle.papi_base.specs.declared.outside.OpenFail.TheVariants as open_fail
-use Rattle.papi_tools.specs.Openings.{Absent, Answers, ByName, CanGive, CanOpen, Ends, Failing, First, ForSome, Is, Leads, Open, Openings, Stops, and_then, found, opened, tape_under}
-use Rattle.papi_tools.specs.declared.refusal.Refusal.{Refusal}
-use Rattle.papi_tools.specs.declared.refusal.Refusal.TheVariants.{NoSuchFile, CannotRead}
-use Rattle.papi_tools.specs.declared.refusal.Stop.{Stop}
 use Rattle.papi_tools.specs.declared.refusal.Stop.TheVariants as stop
 
 -- something that the openings of files can find

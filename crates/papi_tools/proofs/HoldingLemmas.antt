@@ -1,9 +1,7 @@
 -- What the files hold stays.
-use Rattle.std.proofs.Common.{◌≡◌, ◌∙◌, ◌+◌, ℕ, zero, suc, List, Option, None, Some, refl, sym, ap, arith, zero-add}
-use Rattle.std.specs.Option.{option_map}
+use Rattle.papi_tools.proofs.Words.{◌≡◌, ◌∙◌, ◌+◌, ℕ, zero, suc, List, Option, None, Some, refl, sym, ap, arith, zero-add, option_map, Held}
+use Rattle.papi_tools.proofs.Words.{renumbered, StaysHeld, held_after, refused_after}
 use Rattle.papi_base.specs.Outside as Outside
-use Rattle.papi_base.specs.Outside.{Held, renumbered}
-use Rattle.papi_tools.specs.Looking.{StaysHeld, held_after, refused_after}
 
 none_past : (held : Option Held) → held ≡ option_map (held_after 0) held
 none_past None = refl

@@ -1,24 +1,10 @@
 -- The scripts that are read keep to their limits: by induction on their lines.
-use Rattle.std.proofs.Common.{◌≡◌, ◌≤◌, ◌<◌, ◌+◌, ◌-◌, ℕ, Bool, true, false, List, [], ◌∷◌, ◌++◌, length, All, Option, Some, None, Result, Ok, Err, refl, sym, ap, subst, arith}
-use Rattle.std.specs.Prelude.{◌&&◌, if◌then◌else◌, nat_le}
-use Rattle.std.specs.Str.Lines.{lines}
-use Rattle.std.specs.Str.Parse.{digits_value}
-use Rattle.std.proofs.lemmas.Bool.{and_parts, leb-false, leb-true}
-use Rattle.std.proofs.lemmas.List.Elements.{All-cons, All-nil}
-use Rattle.papi_base.specs.Numerals.{decimal_in, is_decimal}
-use Rattle.papi_base.specs.declared.limits.TheConstants.{THREADS}
+use Rattle.papi_tools.proofs.Words.{◌≡◌, ◌≤◌, ◌<◌, ◌+◌, ◌-◌, ℕ, Bool, true, false, List, [], ◌∷◌, ◌++◌, length, All, Option, Some, None, Result, Ok}
+use Rattle.papi_tools.proofs.Words.{Err, refl, sym, ap, subst, arith, ◌&&◌, if◌then◌else◌, nat_le, lines, digits_value, and_parts, leb-false}
+use Rattle.papi_tools.proofs.Words.{leb-true, All-cons, All-nil, decimal_in, is_decimal, THREADS, number_or, Refused, lines_from, onto, Written}
+use Rattle.papi_tools.proofs.Words.{call_of, call_line, is_skipped, line_of_call, line_of_words, line_with, script_of, scripts, words_of, ScriptCause}
+use Rattle.papi_tools.proofs.Words.{BadThread, OverLimit, ScriptLine, MOST_CALLS, ScriptsAreKept}
 use Rattle.script_lines.specs.Answers.{and_then, made_of}
-use Rattle.script_lines.specs.Arguments.{number_or}
-use Rattle.script_lines.specs.ByLine.{Refused, lines_from, onto}
-use Rattle.script_lines.specs.Calls.{Written, call_of}
-use Rattle.script_lines.specs.Lines.{call_line, is_skipped, line_of_call, line_of_words, line_with}
-use Rattle.script_lines.specs.Scripts.{script_of, scripts}
-use Rattle.script_lines.specs.Words.{words_of}
-use Rattle.script_lines.specs.declared.fault.ScriptCause.{ScriptCause}
-use Rattle.script_lines.specs.declared.fault.ScriptCause.TheVariants.{BadThread, OverLimit}
-use Rattle.script_lines.specs.declared.script.ScriptLine.{ScriptLine}
-use Rattle.script_lines.specs.declared.script.TheConstants.{MOST_CALLS}
-use Rattle.papi_tools.specs.OwnReplies.{ScriptsAreKept}
 
 -- ---- one line
 

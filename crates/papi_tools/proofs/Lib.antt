@@ -21,4 +21,5 @@ pub mod SoakLemmas
 pub mod StepLemmas
 pub mod StreamLemmas
 pub mod TellingLemmas
+pub mod Words
 pub mod WritingLemmas

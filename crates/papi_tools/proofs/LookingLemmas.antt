@@ -1,10 +1,5 @@
 -- What is looked at after a step that ends the call.
-use Rattle.std.proofs.Common.{◌≤◌, ℕ, Err, inl}
-use Rattle.papi_base.specs.Outside.{Rose}
-use Rattle.papi_tools.specs.Looking.{FilesSeen, HasFileCause, Looked, StopsByFile}
-use Rattle.papi_tools.specs.declared.refusal.Refusal.{Refusal}
-use Rattle.papi_tools.specs.declared.refusal.Refusal.TheVariants.{NoSuchFile, CannotRead}
-use Rattle.papi_tools.specs.declared.refusal.Stop.{Stop}
+use Rattle.papi_tools.proofs.Words.{◌≤◌, ℕ, Err, inl, Rose, FilesSeen, HasFileCause, Looked, StopsByFile, Refusal, NoSuchFile, CannotRead, Stop}
 use Rattle.papi_tools.specs.declared.refusal.Stop.TheVariants.{Refused, Memory}
 use Rattle.papi_tools.proofs.StreamLemmas.{by_either}
 

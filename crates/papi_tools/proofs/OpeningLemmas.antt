@@ -1,16 +1,9 @@
 -- The first of the streams are open, in readers.
-use Rattle.std.proofs.Common.{◌≡◌, ◌<◌, ◌+◌, ◌-◌, ℕ, zero, suc, true, false, List, [], ◌∷◌, ◌++◌, All, length, drop, map, replicate, Option, Some, None, Result, Ok, Err, refl, sym, ap, ap₂, ◌∙◌, append_assoc, append-nil, get_or, add-one, drop-cons, arith, subst}
-use Rattle.papi_base.specs.Outside.{Tape, Held}
-use Rattle.papi_base.specs.declared.outside.Ending.TheVariants.{End}
-use Rattle.papi_base.specs.Streams.{Coming}
-use Rattle.thread_registry.specs.Runs.{CanEachCome}
-use Rattle.stream_reader.specs.Occurs.{occurs_of}
-use Rattle.stream_reader.specs.Reader.{ReaderView, SourceView, comes, new_view, tape_of}
-use Rattle.thread_session.specs.Prospects.{CanCome}
-use Rattle.papi_tools.specs.Openings.{CanGive, CanOpen, Ends, ForSome, Leads, Openings, Stops, and_then, opened, tape_under, tapes_under}
-use Rattle.papi_tools.specs.Streams.{CanEachGive, IsUnread, empty_stream, stream_of, streams_of, streams_under}
-use Rattle.papi_tools.specs.declared.refusal.Refusal.{Refusal}
-use Rattle.papi_tools.specs.declared.refusal.Stop.{Stop}
+use Rattle.papi_tools.proofs.Words.{◌≡◌, ◌<◌, ◌+◌, ◌-◌, ℕ, zero, suc, true, false, List, [], ◌∷◌, ◌++◌, All, length, drop, map, replicate, Option}
+use Rattle.papi_tools.proofs.Words.{Some, None, Result, Ok, Err, refl, sym, ap, ap₂, ◌∙◌, append_assoc, append-nil, get_or, add-one, drop-cons, arith}
+use Rattle.papi_tools.proofs.Words.{subst, Tape, Held, End, Coming, CanEachCome, occurs_of, ReaderView, SourceView, comes, new_view, tape_of, CanCome}
+use Rattle.papi_tools.proofs.Words.{CanGive, CanOpen, Ends, ForSome, Leads, Openings, Stops, and_then, opened, tape_under, tapes_under, CanEachGive}
+use Rattle.papi_tools.proofs.Words.{IsUnread, empty_stream, stream_of, streams_of, streams_under, Refusal, Stop}
 use Rattle.papi_tools.specs.declared.refusal.Stop.TheVariants as stop
 use Rattle.papi_tools.proofs.FindingLemmas.{some_openings}
 

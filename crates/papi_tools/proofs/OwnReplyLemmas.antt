@@ -1,30 +1,12 @@
 -- What `papi_run` replies and tells, by each thread's own calls.
-use Rattle.std.proofs.Common.{◌≡◌, ◌+◌, ◌<◌, ◌==◌, ℕ, zero, suc, Bool, true, false, List, [], ◌∷◌, map, refl, ap, ◌∙◌, arith, slice_get, take, Some}
+use Rattle.papi_tools.proofs.Words.{◌≡◌, ◌+◌, ◌<◌, ◌==◌, ℕ, zero, suc, Bool, true, false, List, [], ◌∷◌, map, refl, ap, ◌∙◌, arith, slice_get, take}
+use Rattle.papi_tools.proofs.Words.{Some, range_with_len, option_map, All-append, All-push, Note, THREADS, notes_are_of_threads}
+use Rattle.papi_tools.proofs.Words.{replies_are_of_threads, CatalogView, shape_of, numbered, BookFits, name_of, ScriptLine, IsGoodAsk, line_of}
+use Rattle.papi_tools.proofs.Words.{lines_of, reply_lines_of, setting_of, LineTold, calls_asked, calls_at, notes_of_thread, IsGood, IsShape, Call}
+use Rattle.papi_tools.proofs.Words.{Asked, Line, Reply, ReplyLine, AreOverUnit, NotesAreOwn, RepliesAreOwn, ran_notes, ran_replies, told_in}
 use Rattle.std.specs.Prelude.{All, if◌then◌else◌}
-use Rattle.std.specs.List.{range_with_len}
-use Rattle.std.specs.Option.{option_map}
-use Rattle.std.proofs.lemmas.List.Elements.{All-append, All-push}
-use Rattle.overflow_dispatch.specs.declared.handler.Note.{Note}
-use Rattle.papi_base.specs.declared.limits.TheConstants.{THREADS}
 use Rattle.call_laws.specs.Readings.{line_of as line_by}
-use Rattle.call_laws.proofs.OwnCalls.{notes_are_of_threads, replies_are_of_threads}
-use Rattle.component_table.specs.Catalogs.{CatalogView, shape_of}
-use Rattle.event_sets.proofs.Agreeing.{numbered}
-use Rattle.postfix_rules.specs.Fitting.{BookFits}
-use Rattle.call_type.specs.Calls.{name_of}
-use Rattle.script_lines.specs.declared.script.ScriptLine.{ScriptLine}
-use Rattle.script_runner.specs.Resolving.{IsGoodAsk, line_of, lines_of, reply_lines_of, setting_of}
-use Rattle.session_model.specs.World.{LineTold, calls_asked, calls_at, notes_of_thread}
-use Rattle.session_model.specs.Conditions.{IsGood}
-use Rattle.session_model.specs.Fitness.{IsShape}
-use Rattle.session_model.specs.CallTypes.{Call}
-use Rattle.session_model.specs.CallTypes.{Asked}
 use Rattle.call_type.specs.declared.call.Asked.TheVariants as asked
-use Rattle.session_model.specs.declared.line.Line.{Line}
-use Rattle.session_model.specs.declared.reply.Reply.{Reply}
-use Rattle.thread_registry.specs.declared.runner.result.ReplyLine.{ReplyLine}
-use Rattle.papi_tools.specs.OwnReplies.{AreOverUnit, NotesAreOwn, RepliesAreOwn}
-use Rattle.papi_tools.specs.Running.{ran_notes, ran_replies, told_in}
 
 -- the line at a place of the script, looked up
 line_at : (catalog : CatalogView) (script : List ScriptLine) (i : ℕ) (l : ScriptLine) → slice_get script i ≡ Some l

@@ -1,22 +1,9 @@
 -- What `papi_run` comes to is the run of a script that was read, so each reply and note is that of the thread's own calls.
-use Rattle.std.proofs.Common.{◌≡◌, ◌<◌, ℕ, List, Result, Ok, Err, refl, sym, ap, ◌∙◌, subst}
-use Rattle.papi_base.specs.declared.limits.TheConstants.{THREADS}
-use Rattle.component_table.specs.Catalogs.{CatalogView}
-use Rattle.event_sets.proofs.Agreeing.{numbered}
-use Rattle.script_lines.specs.ByLine.{Refused}
-use Rattle.script_lines.specs.Kept.{IsScript}
-use Rattle.script_lines.specs.Scripts.{script_of}
-use Rattle.script_lines.specs.declared.fault.ScriptCause.{ScriptCause}
-use Rattle.script_lines.specs.declared.script.ScriptLine.{ScriptLine}
-use Rattle.papi_tools.specs.Contents.{after_tables, catalog_under, lines_unless, script_in, script_under}
-use Rattle.papi_tools.specs.Openings.{Openings, and_then, file_bytes, opened}
-use Rattle.papi_tools.specs.OwnReplies.{RunsAreOwn}
-use Rattle.papi_tools.specs.Run.{ran_of, ran_verdict, run_verdict}
-use Rattle.papi_tools.specs.Running.{GivenRun, given_of, given_with}
-use Rattle.papi_tools.specs.Streams.{streams_under}
-use Rattle.papi_tools.specs.declared.limits.TheConstants.{SCRIPT_BYTES}
+use Rattle.papi_tools.proofs.Words.{◌≡◌, ◌<◌, ℕ, List, Result, Ok, Err, refl, sym, ap, ◌∙◌, subst, THREADS, CatalogView, numbered, Refused, IsScript}
+use Rattle.papi_tools.proofs.Words.{script_of, ScriptCause, ScriptLine, after_tables, catalog_under, lines_unless, script_in, script_under, Openings}
+use Rattle.papi_tools.proofs.Words.{and_then, file_bytes, opened, RunsAreOwn, ran_of, ran_verdict, run_verdict, GivenRun, given_of, given_with}
+use Rattle.papi_tools.proofs.Words.{streams_under, SCRIPT_BYTES, Refusal}
 use Rattle.papi_tools.specs.declared.refusal.FileCause.TheVariants as cause
-use Rattle.papi_tools.specs.declared.refusal.Refusal.{Refusal}
 use Rattle.papi_tools.proofs.KeptLemmas.{scripts_are_kept}
 use Rattle.papi_tools.proofs.OwnReplyLemmas.{notes_are_own, replies_are_own}
 

@@ -1,60 +1,19 @@
 -- Nothing is said on standard error exactly if a tool ends with its own status: tool by tool.
-use Rattle.std.proofs.Common.{◌≡◌, ◌≢◌, ◌≤◌, ◌+◌, ℕ, Bool, true, false, List, [], ◌∷◌, IfOk, Option, Some, None, Result, Ok, Err, refl, sym, subst, arith}
-use Rattle.std.specs.Prelude.{if◌then◌else◌}
-use Rattle.std.specs.List.{list_any}
-use Rattle.component_table.specs.Catalogs.{CatalogView}
-use Rattle.session_model.specs.declared.reply.Ended.{Ended}
-use Rattle.session_model.specs.declared.reply.Ended.TheVariants.{Bad, Fault, Going}
-use Rattle.thread_registry.specs.Marks.{marks_in}
+use Rattle.papi_tools.proofs.Words.{◌≡◌, ◌≢◌, ◌≤◌, ◌+◌, ℕ, Bool, true, false, List, [], ◌∷◌, IfOk, Option, Some, None, Result, Ok, Err, refl, sym}
+use Rattle.papi_tools.proofs.Words.{subst, arith, if◌then◌else◌, list_any, CatalogView, Ended, Bad, Fault, Going, marks_in, given_set, form}
+use Rattle.papi_tools.proofs.Words.{AvailWords, ChooserWords, Command, Run, Profil, Regions, Avail, NativeAvail, EventChooser, Decode, Encode, Soak}
+use Rattle.papi_tools.proofs.Words.{chooser_verdict, decode_verdict, encode_verdict, native_avail_verdict, avail_verdict, profil_verdict}
+use Rattle.papi_tools.proofs.Words.{regions_verdict, run_verdict, soak_verdict, DecodeWords, EncodeWords, NativeAvailWords, ProfilWords, RegionsWords}
+use Rattle.papi_tools.proofs.Words.{RunWords, SoakWords, IsOwn, StatusIsOwn, choice_said, after_tables, catalog_under, map_under, regions_under}
+use Rattle.papi_tools.proofs.Words.{script_under, unit_under, decoded_in, decoded_said, decoded_with, shown_in, encoded_said, is_bad, is_fault}
+use Rattle.papi_tools.proofs.Words.{mark_lines, marked_said, natives_said, Openings, Verdict, and_then, file_bytes, opened, quiet, presets_said}
+use Rattle.papi_tools.proofs.Words.{profiled_of, profiled_over, profiled_verdict, GivenRegions, calls_of, counted_of, regions_said, said_with, ran_of}
+use Rattle.papi_tools.proofs.Words.{ran_verdict, given_of, ran_replies, Says, soak_given, soaked, status_of, text_said, ended, refused_said, verdict}
+use Rattle.papi_tools.proofs.Words.{verdict_for, TABLE_BYTES, Refusal, BadWords, CannotRead, Faulty, NoSuchFile, TooLarge, Said, Status}
 use Rattle.tool_output.specs.Choosing as Choosing
-use Rattle.tool_output.specs.Choosing.{given_set}
-use Rattle.tool_words.specs.Form.{form}
-use Rattle.tool_words.specs.declared.avail.AvailWords.{AvailWords}
-use Rattle.tool_words.specs.declared.chooser.ChooserWords.{ChooserWords}
-use Rattle.tool_words.specs.declared.command.Command.{Command}
 -- tools/make_tools: begin uses
-use Rattle.tool_words.specs.declared.command.Command.TheVariants.{Run, Profil, Regions, Avail, NativeAvail, EventChooser, Decode, Encode, Soak}
-use Rattle.papi_tools.specs.Choosing.{chooser_verdict}
-use Rattle.papi_tools.specs.Decoding.{decode_verdict}
-use Rattle.papi_tools.specs.Encoding.{encode_verdict}
-use Rattle.papi_tools.specs.NativeListing.{native_avail_verdict}
-use Rattle.papi_tools.specs.PresetListing.{avail_verdict}
-use Rattle.papi_tools.specs.Profiling.{profil_verdict}
-use Rattle.papi_tools.specs.RegionCounts.{regions_verdict}
-use Rattle.papi_tools.specs.Run.{run_verdict}
-use Rattle.papi_tools.specs.Soaking.{soak_verdict}
 -- tools/make_tools: end uses
-use Rattle.tool_words.specs.declared.decode.DecodeWords.{DecodeWords}
-use Rattle.tool_words.specs.declared.encode.EncodeWords.{EncodeWords}
-use Rattle.tool_words.specs.declared.native_avail.NativeAvailWords.{NativeAvailWords}
-use Rattle.tool_words.specs.declared.profil.ProfilWords.{ProfilWords}
-use Rattle.tool_words.specs.declared.regions.RegionsWords.{RegionsWords}
-use Rattle.tool_words.specs.declared.run.RunWords.{RunWords}
-use Rattle.tool_words.specs.declared.soak.SoakWords.{SoakWords}
-use Rattle.papi_tools.specs.Causes.{IsOwn, StatusIsOwn}
-use Rattle.papi_tools.specs.Choosing.{choice_said, chooser_verdict}
-use Rattle.papi_tools.specs.Contents.{after_tables, catalog_under, map_under, regions_under, script_under, unit_under}
-use Rattle.papi_tools.specs.Decoding.{decode_verdict, decoded_in, decoded_said, decoded_with, shown_in}
-use Rattle.papi_tools.specs.Encoding.{encode_verdict, encoded_said}
-use Rattle.papi_tools.specs.Marks.{is_bad, is_fault, mark_lines, marked_said}
-use Rattle.papi_tools.specs.NativeListing.{native_avail_verdict, natives_said}
-use Rattle.papi_tools.specs.Openings.{Openings, Verdict, and_then, file_bytes, opened, quiet}
-use Rattle.papi_tools.specs.PresetListing.{avail_verdict, presets_said}
-use Rattle.papi_tools.specs.Profiling.{profiled_of, profiled_over, profiled_verdict}
-use Rattle.papi_tools.specs.RegionCounts.{GivenRegions, calls_of, counted_of, regions_said, said_with}
-use Rattle.papi_tools.specs.Run.{ran_of, ran_verdict}
-use Rattle.papi_tools.specs.Running.{given_of, ran_replies}
-use Rattle.papi_tools.specs.Saying.{Says}
-use Rattle.papi_tools.specs.Soaking.{soak_given, soaked}
-use Rattle.papi_tools.specs.Status.{status_of}
-use Rattle.papi_tools.specs.Texts.{text_said}
-use Rattle.papi_tools.specs.Verdict.{ended, refused_said, verdict, verdict_for}
-use Rattle.papi_tools.specs.declared.limits.TheConstants.{TABLE_BYTES}
-use Rattle.papi_tools.specs.declared.refusal.Refusal.{Refusal}
-use Rattle.papi_tools.specs.declared.refusal.Refusal.TheVariants.{BadWords, CannotRead, Faulty, NoSuchFile, TooLarge}
-use Rattle.papi_tools.specs.declared.said.Said.{Said}
 use Rattle.papi_tools.specs.declared.status.Outcome.TheVariants as outcome
-use Rattle.papi_tools.specs.declared.status.Status.{Status}
 use Rattle.papi_tools.specs.declared.status.Status.TheVariants as status
 
 -- ---- what is said

@@ -1,28 +1,16 @@
 -- What was read at the lines of a region script is what the positions of the threads' streams give.
-use Rattle.std.proofs.Common.{◌≡◌, ◌∙◌, ◌<◌, ◌≤◌, ◌++◌, ◌∷◌, ℕ, true, false, List, [], All, length, map, Option, None, Some, Result, Ok, Err, refl, sym, ap, ap₂, arith, subst}
-use Rattle.std.specs.Prelude.{is_ok}
-use Rattle.papi_base.specs.declared.code.Code.{Code}
-use Rattle.papi_base.specs.declared.native.EventRef.{EventRef}
+use Rattle.papi_tools.proofs.Words.{◌≡◌, ◌∙◌, ◌<◌, ◌≤◌, ◌++◌, ◌∷◌, ℕ, true, false, List, [], All, length, map, Option, None, Some, Result, Ok, Err}
+use Rattle.papi_tools.proofs.Words.{refl, sym, ap, ap₂, arith, subst, is_ok, Code, EventRef, given_set, taken_unless, with_named, with_text}
+use Rattle.papi_tools.proofs.Words.{with_texts, CatalogView, looked_up, add_refusal, AtRest, new_set, with_event, AreBegun, LooksUp, ScriptIsLookedUp}
+use Rattle.papi_tools.proofs.Words.{AllFit, SpansByPosition, region_spans, spans_from, ScriptLine, asked_of, line_of, lines_of, reply_lines_of}
+use Rattle.papi_tools.proofs.Words.{setting_of, Asked, LineTold, Setting, World, opening_world, told, turn_of, world_after_line, GivenRegions}
+use Rattle.papi_tools.proofs.Words.{calls_of, events_named, named_by, readings_in, values_in, ran_replies}
 use Rattle.tool_output.specs.Choosing as Choosing
-use Rattle.tool_output.specs.Choosing.{given_set, taken_unless, with_named, with_text, with_texts}
-use Rattle.component_table.specs.Catalogs.{CatalogView, looked_up}
-use Rattle.event_sets.specs.Adding.{add_refusal}
-use Rattle.event_sets.specs.AtRest.{AtRest, new_set, with_event}
 use Rattle.event_sets.specs.declared.refusal.Refusal.{Refusal}
-use Rattle.call_laws.specs.Nesting.{AreBegun}
 use Rattle.call_laws.specs.Readings.{TakesAll, readings_told, script_of}
-use Rattle.call_laws.specs.Scripts.{LooksUp, ScriptIsLookedUp}
-use Rattle.call_laws.specs.Spans.{AllFit, SpansByPosition, region_spans}
 use Rattle.region_report.specs.CallLines.{asked, numbered}
-use Rattle.region_report.specs.Spans.{spans_from}
-use Rattle.script_lines.specs.declared.script.ScriptLine.{ScriptLine}
-use Rattle.script_runner.specs.Resolving.{asked_of, line_of, lines_of, reply_lines_of, setting_of}
-use Rattle.session_model.specs.CallTypes.{Asked}
-use Rattle.session_model.specs.World.{LineTold, Setting, World, opening_world, told, turn_of, world_after_line}
 use Rattle.call_type.specs.declared.call.Call.TheVariants as call
 use Rattle.call_type.specs.declared.call.Asked.TheVariants as line
-use Rattle.papi_tools.specs.RegionCounts.{GivenRegions, calls_of, events_named, named_by, readings_in, values_in}
-use Rattle.papi_tools.specs.Running.{ran_replies}
 
 -- ---- the events
 

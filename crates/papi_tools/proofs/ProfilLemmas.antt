@@ -1,24 +1,11 @@
 -- The notes of an event that a profile counts, and what is said of them.
-use Rattle.std.proofs.Common.{◌≡◌, ◌<◌, ◌≤◌, ◌+◌, ◌-◌, ◌∙◌, ℕ, zero, suc, List, [], ◌∷◌, ◌++◌, length, drop, filter, get_or, map, take, Some, None, Result, Ok, Vec, Global, Option, vec_len, refl, sym, ap, arith, slice_index_or}
-use Rattle.std.proofs.Math.Seq.{drop-append_seam}
-use Rattle.std.proofs.lemmas.List.{drop-append-le, length-take-le, map-append, take_all, take_more}
-use Rattle.std.proofs.lemmas.List.Elements.{filter-append}
-use Rattle.std.proofs.lemmas.Option.{get_or_from_slice_get, slice_get_within}
+use Rattle.papi_tools.proofs.Words.{◌≡◌, ◌<◌, ◌≤◌, ◌+◌, ◌-◌, ◌∙◌, ℕ, zero, suc, List, [], ◌∷◌, ◌++◌, length, drop, filter, get_or, map, take, Some}
+use Rattle.papi_tools.proofs.Words.{None, Result, Ok, Vec, Global, Option, vec_len, refl, sym, ap, arith, slice_index_or, drop-append_seam}
+use Rattle.papi_tools.proofs.Words.{drop-append-le, length-take-le, map-append, take_all, take_more, filter-append, get_or_from_slice_get}
+use Rattle.papi_tools.proofs.Words.{slice_get_within, Note, EachAdded, Ended, ReplyLine, marks_in, HistText, IsHistogram, RangeText, ProfilWords}
+use Rattle.papi_tools.proofs.Words.{Answers, counted_in, is_counted, profile_said, profiled_verdict, GivenRun, note_counts, ran_notes, ran_replies}
+use Rattle.papi_tools.proofs.Words.{AnswersSaid, Stop, Said}
 use Rattle.std.specs.Prelude.{slice_get}
-use Rattle.overflow_dispatch.specs.declared.handler.Note.{Note}
-use Rattle.overflow_dispatch.specs.Notes.{EachAdded}
-use Rattle.session_model.specs.declared.reply.Ended.{Ended}
-use Rattle.thread_registry.specs.declared.runner.result.ReplyLine.{ReplyLine}
-use Rattle.thread_registry.specs.Marks.{marks_in}
-use Rattle.profil_hist.specs.Histograms.{HistText, IsHistogram}
-use Rattle.profil_hist.specs.Ranges.{RangeText}
-use Rattle.tool_words.specs.declared.profil.ProfilWords.{ProfilWords}
-use Rattle.papi_tools.specs.Openings.{Answers}
-use Rattle.papi_tools.specs.Profiling.{counted_in, is_counted, profile_said, profiled_verdict}
-use Rattle.papi_tools.specs.Running.{GivenRun, note_counts, ran_notes, ran_replies}
-use Rattle.papi_tools.specs.Verdict.{AnswersSaid}
-use Rattle.papi_tools.specs.declared.refusal.Stop.{Stop}
-use Rattle.papi_tools.specs.declared.said.Said.{Said}
 use Rattle.papi_tools.proofs.RunLemmas.{as_many}
 use Rattle.papi_tools.proofs.StepLemmas.{says_same}
 

@@ -1,15 +1,9 @@
 -- What was read whole is a tape that the file can have.
-use Rattle.std.proofs.Common.{◌≡◌, ◌<◌, ◌≤◌, ◌+◌, ℕ, List, [], length, replicate, Option, Some, None, IfSome, Result, Ok, Err, Vec, Global, refl, sym, ap, ◌∙◌, arith, subst}
-use Rattle.std.proofs.lemmas.Bool.{le-ltb, lt-ltb}
-use Rattle.std.proofs.lemmas.List.{length-replicate}
-use Rattle.papi_base.specs.Outside.{Tape, Held}
+use Rattle.papi_tools.proofs.Words.{◌≡◌, ◌<◌, ◌≤◌, ◌+◌, ℕ, List, [], length, replicate, Option, Some, None, IfSome, Result, Ok, Err, Vec, Global}
+use Rattle.papi_tools.proofs.Words.{refl, sym, ap, ◌∙◌, arith, subst, le-ltb, lt-ltb, length-replicate, Tape, Held, AnswersWhole, WholeFault, Answers}
+use Rattle.papi_tools.proofs.Words.{CanGive, Is, Leads, bytes_of, bytes_until, file_bytes, opened, tape_under, CannotRead, TooLarge, Stop}
 use Rattle.papi_base.specs.declared.outside.Ending.TheVariants.{End, Fault}
-use Rattle.papi_base.specs.Whole.{AnswersWhole}
-use Rattle.papi_base.specs.declared.whole.WholeFault.{WholeFault}
 use Rattle.papi_base.specs.declared.whole.WholeFault.TheVariants as whole
-use Rattle.papi_tools.specs.Openings.{Answers, CanGive, Is, Leads, bytes_of, bytes_until, file_bytes, opened, tape_under}
-use Rattle.papi_tools.specs.declared.refusal.Refusal.TheVariants.{CannotRead, TooLarge}
-use Rattle.papi_tools.specs.declared.refusal.Stop.{Stop}
 use Rattle.papi_tools.specs.declared.refusal.Stop.TheVariants as stop
 use Rattle.papi_tools.proofs.FindingLemmas.{leads_on, plain}
 

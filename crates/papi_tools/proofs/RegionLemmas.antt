@@ -1,41 +1,17 @@
 -- What is said of the regions of a program: the report by what was read, or the first event that is refused.
-use Rattle.std.proofs.Common.{◌≡◌, ◌∙◌, ◌++◌, ◌≤◌, ◌<◌, ◌+◌, ℕ, ℤ, Bool, true, false, List, [], ◌∷◌, All, length, take, Option, IfOk, Result, Ok, Err, refl, sym, ap, ap₂, get_or, subst, arith, Vec, Global, vec_len}
-use Rattle.std.specs.Prelude.{is_ok}
-use Rattle.std.proofs.lemmas.Grind.{flat_map-append}
-use Rattle.std.proofs.lemmas.List.{take_more}
+use Rattle.papi_tools.proofs.Words.{◌≡◌, ◌∙◌, ◌++◌, ◌≤◌, ◌<◌, ◌+◌, ℕ, ℤ, Bool, true, false, List, [], ◌∷◌, All, length, take, Option, IfOk, Result}
+use Rattle.papi_tools.proofs.Words.{Ok, Err, refl, sym, ap, ap₂, get_or, subst, arith, Vec, Global, vec_len, is_ok, flat_map-append, take_more}
+use Rattle.papi_tools.proofs.Words.{all_taken, chooser_text, given_set, refused_text, text_of, Candidates, CatalogView, marks_in, ReplyLine}
+use Rattle.papi_tools.proofs.Words.{some-streams, AreBegun, ScriptsAreBegun, ScriptIsLookedUp, AllFit, SpansByPosition, IsRegions, report_text}
+use Rattle.papi_tools.proofs.Words.{regions_of, spans_from, RegionCause, RegionLine, Refused, ScriptLine, Ended, ReaderView, Answers, IsExpected}
+use Rattle.papi_tools.proofs.Words.{lines_unless, regions_in, marked_said, GivenRegions, calls_of, counted_said, readings_in, regions_said, said_with}
+use Rattle.papi_tools.proofs.Words.{values_in, CanBeGivenRun, GivenRun, ran_replies, text_said, Stop, Said}
 use Rattle.tool_output.specs.Choosing as Choosing
-use Rattle.tool_output.specs.Choosing.{all_taken, chooser_text, given_set, refused_text, text_of}
-use Rattle.tool_output.specs.declared.chooser.candidates.Candidates.{Candidates}
-use Rattle.component_table.specs.Catalogs.{CatalogView}
-use Rattle.thread_registry.specs.Marks.{marks_in}
-use Rattle.thread_registry.specs.declared.runner.result.ReplyLine.{ReplyLine}
-use Rattle.thread_registry.proofs.Worlds.{some-streams}
 use Rattle.region_report.specs.CallLines as Calls
 use Rattle.region_report.specs.CallLines.{asked, numbered}
-use Rattle.call_laws.specs.Nesting.{AreBegun, ScriptsAreBegun}
-use Rattle.call_laws.specs.Scripts.{ScriptIsLookedUp}
-use Rattle.call_laws.specs.Spans.{AllFit, SpansByPosition}
-use Rattle.region_report.specs.Kept.{IsRegions}
-use Rattle.region_report.specs.Reports.{report_text}
-use Rattle.region_report.specs.Scripts.{regions_of}
-use Rattle.region_report.specs.Spans.{spans_from}
-use Rattle.region_report.specs.declared.fault.RegionCause.{RegionCause}
-use Rattle.region_report.specs.declared.regions.RegionLine.{RegionLine}
-use Rattle.script_lines.specs.ByLine.{Refused}
-use Rattle.script_lines.specs.declared.script.ScriptLine.{ScriptLine}
-use Rattle.session_model.specs.declared.reply.Ended.{Ended}
-use Rattle.stream_reader.specs.Reader.{ReaderView}
 use Rattle.tool_words.specs.EventList as Words
-use Rattle.papi_tools.specs.Openings.{Answers, IsExpected}
-use Rattle.papi_tools.specs.Contents.{lines_unless, regions_in}
-use Rattle.papi_tools.specs.Marks.{marked_said}
-use Rattle.papi_tools.specs.RegionCounts.{GivenRegions, calls_of, counted_said, readings_in, regions_said, said_with, values_in}
-use Rattle.papi_tools.specs.Running.{CanBeGivenRun, GivenRun, ran_replies}
-use Rattle.papi_tools.specs.Texts.{text_said}
 use Rattle.papi_tools.specs.declared.refusal.FileCause.TheVariants as cause
-use Rattle.papi_tools.specs.declared.refusal.Stop.{Stop}
 use Rattle.papi_tools.specs.declared.refusal.Stop.TheVariants as stop
-use Rattle.papi_tools.specs.declared.said.Said.{Said}
 use Rattle.papi_tools.proofs.PositionLemmas.{by_position}
 
 -- the events of the words are words of a script

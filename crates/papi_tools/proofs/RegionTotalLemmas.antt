@@ -1,24 +1,12 @@
 -- A total is the wrapped sum of what the lines that end its region show: by induction on the lines.
-use Rattle.std.proofs.Common.{◌≡◌, ◌+ℤ◌, ℕ, ℤ, pos, Bool, true, false, List, [], ◌∷◌, ◌++◌, zero, suc, All, FitsSigned, filter, map, refl, ap, ap₂, ◌∙◌, arith}
+use Rattle.papi_tools.proofs.Words.{◌≡◌, ◌+ℤ◌, ℕ, ℤ, pos, Bool, true, false, List, [], ◌∷◌, ◌++◌, zero, suc, All, FitsSigned, filter, map, refl, ap}
+use Rattle.papi_tools.proofs.Words.{ap₂, ◌∙◌, arith, int_wrap, int_wrapping_add, w64, SFits-int_wrap, int_wrap-add_left, int_wrap_fits, ints}
+use Rattle.papi_tools.proofs.Words.{wrapping_add_is, All-append, All-cons, All-head, All-nil, All-tail, Coming, EventRef, Occ, Book, wrapped}
+use Rattle.papi_tools.proofs.Words.{before_reading, region_span, region_spans, spans_after, spans_at, column_sums, plus, wrapped_sums, is_reading}
+use Rattle.papi_tools.proofs.Words.{ends, total, with_end, Span, pairwise, RegionLine, TotalsAreSums, ended_values}
 use Rattle.std.specs.Prelude.{fold, if◌then◌else◌, replicate}
-use Rattle.std.specs.Int.{int_wrap, int_wrapping_add, w64}
-use Rattle.std.proofs.lemmas.Int.{SFits-int_wrap, int_wrap-add_left, int_wrap_fits, ints, wrapping_add_is}
-use Rattle.std.proofs.lemmas.List.Elements.{All-append, All-cons, All-head, All-nil, All-tail}
-use Rattle.papi_base.specs.Streams.{Coming}
-use Rattle.papi_base.specs.declared.native.EventRef.{EventRef}
 use Rattle.papi_base.specs.declared.native.EventRef.TheVariants as event
-use Rattle.papi_base.specs.declared.occurrence.Occ.{Occ}
-use Rattle.postfix_rules.specs.Presets.{Book}
-use Rattle.postfix_rules.specs.Values.{wrapped}
-use Rattle.call_laws.specs.Nesting.{before_reading}
 use Rattle.call_laws.specs.Positions.{position, stream_of, value_between}
-use Rattle.call_laws.specs.Spans.{region_span, region_spans, spans_after, spans_at}
-use Rattle.call_laws.specs.Values.{column_sums, plus, wrapped_sums}
-use Rattle.region_report.specs.Lines.{is_reading}
-use Rattle.region_report.specs.Reports.{ends, total, with_end}
-use Rattle.region_report.specs.Spans.{Span, pairwise}
-use Rattle.region_report.specs.declared.regions.RegionLine.{RegionLine}
-use Rattle.papi_tools.specs.RegionTotals.{TotalsAreSums, ended_values}
 
 -- ---- sums
 

@@ -1,38 +1,11 @@
 -- What is said of a run is what the definition says.
 use Rattle.std.proofs.Common.{◌≡◌, ◌<◌, ◌≤◌, ◌+◌, ℕ, zero, suc, Bool, true, false, List, [], ◌∷◌, length, map, Option, Some, None, IfOk, Result, Ok, Err, Vec, Global, vec_len, refl, sym, ap, ap₂, ◌∙◌, arith, All, cond, if◌then◌else◌, inl, inr, is_some, slice_index_or, zero-add}
-use Rattle.std.proofs.lemmas.List.{length-map}
-use Rattle.std.specs.List.{range_with_len}
-use Rattle.std.specs.Option.{option_map, option_map_or}
-use Rattle.event_sets.specs.AtRest.{Widths}
-use Rattle.postfix_rules.specs.Presets.{Book}
-use Rattle.overflow_dispatch.specs.declared.handler.Note.{Note}
-use Rattle.overflow_dispatch.specs.Notes.{EachAdded, told_since}
-use Rattle.overflow_dispatch.proofs.SinceLemmas.{added_is_told}
-use Rattle.papi_base.specs.Outside.{Rose}
-use Rattle.session_model.specs.World.{LineTold, notes_of_thread}
-use Rattle.session_model.specs.declared.reply.Ended.{Ended}
-use Rattle.stream_reader.specs.Reader.{ReaderView, SourceView}
-use Rattle.thread_session.specs.Faults.{FaultsKept, FaultsRose, IsFaultReply, fault_count}
-use Rattle.component_table.specs.Catalogs.{CatalogView, shape_of}
-use Rattle.script_lines.specs.declared.script.ScriptLine.{ScriptLine}
-use Rattle.thread_registry.specs.declared.runner.plan.PlanLine.{PlanLine}
-use Rattle.thread_registry.specs.declared.runner.result.ReplyLine.{ReplyLine}
-use Rattle.thread_registry.specs.Marks.{marks_in}
-use Rattle.thread_registry.specs.Plans.{IsPlanOf}
-use Rattle.thread_registry.specs.Runs.{AllKept, IsPlannedAndTold, IsPlannedFrom, reply_lines}
-use Rattle.thread_registry.proofs.Worlds.{some-streams}
-use Rattle.script_runner.specs.Resolving.{lines_of, reply_lines_of, setting_of}
-use Rattle.papi_tools.specs.Openings.{Answers}
-use Rattle.papi_tools.specs.Looking.{Shows}
-use Rattle.papi_tools.specs.Marks.{marked_said, outcome_at}
-use Rattle.papi_tools.specs.Run.{ran_verdict, run_said, shown_notes}
-use Rattle.papi_tools.specs.Running.{CanBeGivenRun, GivenOf, GivenRun, IsGivenRun, note_counts, ran_notes, ran_replies, told_in}
-use Rattle.papi_tools.specs.Streams.{SomeFailed, sources_in}
-use Rattle.papi_tools.specs.Verdict.{AnswersSaid}
-use Rattle.papi_tools.specs.declared.refusal.Stop.{Stop}
-use Rattle.papi_tools.specs.declared.said.Said.{Said}
-use Rattle.papi_tools.specs.declared.status.Outcome.{Outcome}
-use Rattle.papi_tools.specs.declared.status.Outcome.TheVariants.{No, ReadFault}
+use Rattle.papi_tools.proofs.Words.{length-map, range_with_len, option_map, option_map_or, Widths, Book, Note, EachAdded, told_since, added_is_told}
+use Rattle.papi_tools.proofs.Words.{Rose, LineTold, notes_of_thread, Ended, ReaderView, SourceView, FaultsKept, FaultsRose, IsFaultReply, fault_count}
+use Rattle.papi_tools.proofs.Words.{CatalogView, shape_of, ScriptLine, PlanLine, ReplyLine, marks_in, IsPlanOf, AllKept, IsPlannedAndTold}
+use Rattle.papi_tools.proofs.Words.{IsPlannedFrom, reply_lines, some-streams, lines_of, reply_lines_of, setting_of, Answers, Shows, marked_said}
+use Rattle.papi_tools.proofs.Words.{outcome_at, ran_verdict, run_said, shown_notes, CanBeGivenRun, GivenOf, GivenRun, IsGivenRun, note_counts}
+use Rattle.papi_tools.proofs.Words.{ran_notes, ran_replies, told_in, SomeFailed, sources_in, AnswersSaid, Stop, Said, Outcome, No, ReadFault}
 use Rattle.papi_tools.proofs.FaultLemmas.{SomeFault, fault_replied, never_no}
 use Rattle.papi_tools.proofs.StreamLemmas.{sources_in-append}
 use Rattle.papi_tools.proofs.StepLemmas.{says_same}

@@ -1,12 +1,6 @@
 -- What has been written, from what each sink has taken.
-use Rattle.std.proofs.Common.{◌≡◌, ◌≤◌, ◌-◌, ◌+◌, ℕ, List, length, take, refl, sym, ap, ◌∙◌, arith, Option}
-use Rattle.std.proofs.lemmas.List.{take_all}
-use Rattle.papi_base.specs.Outside.{appended}
-use Rattle.papi_tools.specs.Status.{status_of}
-use Rattle.papi_tools.specs.Saying.{Wrote, WroteAll, Says, HasSinkCause}
-use Rattle.papi_tools.specs.declared.status.Outcome.{Outcome}
-use Rattle.papi_tools.specs.declared.status.Outcome.TheVariants.{Whole}
-use Rattle.papi_tools.specs.declared.said.Said.{Said}
+use Rattle.papi_tools.proofs.Words.{◌≡◌, ◌≤◌, ◌-◌, ◌+◌, ℕ, List, length, take, refl, sym, ap, ◌∙◌, arith, Option, take_all, appended, status_of}
+use Rattle.papi_tools.proofs.Words.{Wrote, WroteAll, Says, HasSinkCause, Outcome, Whole, Said}
 
 -- the whole output and a prefix of the lines
 pub out_whole : (said : Said) (out out' err err' : Option (List ℕ)) → out' ≡ appended out said.out → (k : ℕ) × (k ≤ length said.err) × (err' ≡ appended err (take k said.err)) → (k : ℕ) × Wrote said k out out' err err'

@@ -1,19 +1,9 @@
 -- What a call says at the end of its steps is what is expected, and has its cause.
-use Rattle.std.proofs.Common.{◌≡◌, ℕ, List, [], Option, None, Some, IfOk, IsOkAnd, Result, Ok, Err, refl, sym, ◌∙◌, subst}
-use Rattle.papi_base.specs.Outside.{Held}
-use Rattle.overflow_dispatch.specs.declared.handler.Note.{Note}
-use Rattle.overflow_dispatch.specs.Notes.{EachBegun}
-use Rattle.tool_words.specs.declared.command.Command.{Command}
-use Rattle.papi_tools.specs.Looking.{FilesSeen, HasFileCause, IsTextual, Looked, SaysNo, Shows, StopsByFile}
-use Rattle.papi_tools.specs.ErrorLines.{outcome_of}
-use Rattle.papi_tools.specs.Openings.{ForSome, Openings, Verdict}
-use Rattle.papi_tools.specs.Verdict.{ComesTo, IsSettled, IsSettledAs, TellsBy, command_verdict, ended, notes_in, refused_said, verdict_for}
-use Rattle.papi_tools.specs.declared.refusal.Refusal.{Refusal}
-use Rattle.papi_tools.specs.declared.refusal.Refusal.TheVariants.{BadWords, NoSuchFile, CannotRead}
-use Rattle.papi_tools.specs.declared.refusal.Stop.{Stop}
+use Rattle.papi_tools.proofs.Words.{◌≡◌, ℕ, List, [], Option, None, Some, IfOk, IsOkAnd, Result, Ok, Err, refl, sym, ◌∙◌, subst, Held, Note}
+use Rattle.papi_tools.proofs.Words.{EachBegun, Command, FilesSeen, HasFileCause, IsTextual, Looked, SaysNo, Shows, StopsByFile, outcome_of, ForSome}
+use Rattle.papi_tools.proofs.Words.{Openings, Verdict, ComesTo, IsSettled, IsSettledAs, TellsBy, command_verdict, ended, notes_in, refused_said}
+use Rattle.papi_tools.proofs.Words.{verdict_for, Refusal, BadWords, NoSuchFile, CannotRead, Stop, Said, Outcome}
 use Rattle.papi_tools.specs.declared.refusal.Stop.TheVariants as stop
-use Rattle.papi_tools.specs.declared.said.Said.{Said}
-use Rattle.papi_tools.specs.declared.status.Outcome.{Outcome}
 use Rattle.papi_tools.specs.declared.status.Outcome.TheVariants as outcome
 use Rattle.papi_tools.proofs.FindingLemmas.{some_openings}
 use Rattle.papi_tools.proofs.TellingLemmas.{added_begun, none_added, none_begun, same_notes}

@@ -1,27 +1,13 @@
 -- A soak: what it runs, what is said of it, and what the handlers are told.
-use Rattle.std.proofs.Common.{◌≡◌, ◌<◌, ◌+◌, ◌-◌, ℕ, zero, suc, Bool, true, false, List, [], ◌∷◌, ◌++◌, length, map, replicate, Option, Some, IsOkAnd, Result, Ok, Err, Vec, Global, vec_len, get_or, drop, refl, sym, ap, ap₂, ◌∙◌, arith, length-append}
-use Rattle.std.proofs.lemmas.List.{drop_more, length-map, map-append}
-use Rattle.std.proofs.lemmas.List.FromFn.{map-range_with_len_more}
+use Rattle.papi_tools.proofs.Words.{◌≡◌, ◌<◌, ◌+◌, ◌-◌, ℕ, zero, suc, Bool, true, false, List, [], ◌∷◌, ◌++◌, length, map, replicate, Option, Some}
+use Rattle.papi_tools.proofs.Words.{IsOkAnd, Result, Ok, Err, Vec, Global, vec_len, get_or, drop, refl, sym, ap, ap₂, ◌∙◌, arith, length-append}
+use Rattle.papi_tools.proofs.Words.{drop_more, length-map, map-append, map-range_with_len_more, range_with_len, Note, EachAdded, Coming, ReaderView}
+use Rattle.papi_tools.proofs.Words.{coming, CatalogView, ScriptLine, ReplyLine, ThreadTotal, SoakWords, Answers, AnswersBy, and_then, GivenRun}
+use Rattle.papi_tools.proofs.Words.{IsGivenRun, note_counts, ran_notes, ran_replies, soak_given, soak_tape, soak_tapes, soak_verdict, soaked}
+use Rattle.papi_tools.proofs.Words.{stop_values, summary_said, thread_total, thread_totals, total_between, totals_between, empty_stream, stream_of}
+use Rattle.papi_tools.proofs.Words.{streams_of, AnswersSaid, ComesTo, notes_in, Refusal, Stop, Said}
 use Rattle.std.specs.Prelude.{find, slice_index, slice_index_or}
-use Rattle.std.specs.List.{range_with_len}
-use Rattle.overflow_dispatch.specs.declared.handler.Note.{Note}
-use Rattle.overflow_dispatch.specs.Notes.{EachAdded}
-use Rattle.papi_base.specs.Streams.{Coming}
-use Rattle.stream_reader.specs.Reader.{ReaderView, coming}
-use Rattle.component_table.specs.Catalogs.{CatalogView}
-use Rattle.script_lines.specs.declared.script.ScriptLine.{ScriptLine}
-use Rattle.thread_registry.specs.declared.runner.result.ReplyLine.{ReplyLine}
-use Rattle.soak_input.specs.declared.summary.ThreadTotal.{ThreadTotal}
-use Rattle.tool_words.specs.declared.soak.SoakWords.{SoakWords}
-use Rattle.papi_tools.specs.Openings.{Answers, AnswersBy, and_then}
-use Rattle.papi_tools.specs.Running.{GivenRun, IsGivenRun, note_counts, ran_notes, ran_replies}
-use Rattle.papi_tools.specs.Soaking.{soak_given, soak_tape, soak_tapes, soak_verdict, soaked, stop_values, summary_said, thread_total, thread_totals, total_between, totals_between}
-use Rattle.papi_tools.specs.Streams.{empty_stream, stream_of, streams_of}
-use Rattle.papi_tools.specs.Verdict.{AnswersSaid, ComesTo, notes_in}
-use Rattle.papi_tools.specs.declared.refusal.Refusal.{Refusal}
-use Rattle.papi_tools.specs.declared.refusal.Stop.{Stop}
 use Rattle.papi_tools.specs.declared.refusal.Stop.TheVariants as stop
-use Rattle.papi_tools.specs.declared.said.Said.{Said}
 use Rattle.papi_tools.proofs.RunLemmas.{counted}
 use Rattle.papi_tools.proofs.StepLemmas.{says_same}
 use Rattle.papi_tools.proofs.StreamLemmas.{all_streams}

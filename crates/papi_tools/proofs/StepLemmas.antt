@@ -1,18 +1,8 @@
 -- A tool whose verdict is made of what its steps gave: what is said and told is what is expected.
-use Rattle.std.proofs.Common.{◌≡◌, ◌∙◌, ℕ, List, [], Option, IfOk, Result, Ok, Err, refl}
-use Rattle.overflow_dispatch.specs.declared.handler.Note.{Note}
-use Rattle.overflow_dispatch.specs.Notes.{EachAdded}
-use Rattle.papi_base.specs.Outside.{Held}
-use Rattle.component_table.specs.Catalogs.{CatalogView}
-use Rattle.tool_words.specs.declared.presets.PresetWords.{PresetWords}
-use Rattle.papi_tools.specs.Openings.{Answers, Ends, ForSome, Is, Leads, Openings, Stops, Verdict, and_then, quiet}
-use Rattle.papi_tools.specs.Looking.{Shows}
-use Rattle.papi_tools.specs.Contents.{after_tables, catalog_under}
-use Rattle.papi_tools.specs.Verdict.{AnswersSaid, ComesTo, TellsBy, ToolTells, notes_in}
-use Rattle.papi_tools.specs.declared.refusal.Refusal.{Refusal}
-use Rattle.papi_tools.specs.declared.refusal.Stop.{Stop}
+use Rattle.papi_tools.proofs.Words.{◌≡◌, ◌∙◌, ℕ, List, [], Option, IfOk, Result, Ok, Err, refl, Note, EachAdded, Held, CatalogView, PresetWords}
+use Rattle.papi_tools.proofs.Words.{Answers, Ends, ForSome, Is, Leads, Openings, Stops, Verdict, and_then, quiet, Shows, after_tables, catalog_under}
+use Rattle.papi_tools.proofs.Words.{AnswersSaid, ComesTo, TellsBy, ToolTells, notes_in, Refusal, Stop, Said}
 use Rattle.papi_tools.specs.declared.refusal.Stop.TheVariants as stop
-use Rattle.papi_tools.specs.declared.said.Said.{Said}
 use Rattle.papi_tools.proofs.FindingLemmas.{so_after, so_at_end, some_openings}
 use Rattle.papi_tools.proofs.TellingLemmas.{added_begun, none_added, none_begun, none_grown}
 

@@ -1,12 +1,8 @@
 -- The readers of a run's streams: what they tell, and how many have a source.
-use Rattle.std.proofs.Common.{◌≡◌, ◌<◌, ◌≤◌, ◌⊎◌, ◌+◌, ◌-◌, ℕ, zero, suc, List, [], ◌∷◌, ◌++◌, length, map, replicate, cond, is_some, Option, Some, Vec, Global, vec_len, inl, inr, refl, sym, ap, ◌∙◌, arith, append_assoc}
-use Rattle.std.proofs.lemmas.List.{length-map, map-append, replicate_more}
-use Rattle.std.proofs.lemmas.List.Sums.{sum_by-append}
-use Rattle.std.proofs.lemmas.Simd.{map-map}
-use Rattle.papi_base.specs.Outside.{Rose, Tape}
-use Rattle.papi_base.specs.Streams.{Coming}
-use Rattle.stream_reader.specs.Reader.{ReaderView, faults_of}
-use Rattle.papi_tools.specs.Streams.{SomeFailed, empty_stream, sources_in, stream_of, streams_of}
+use Rattle.papi_tools.proofs.Words.{◌≡◌, ◌<◌, ◌≤◌, ◌⊎◌, ◌+◌, ◌-◌, ℕ, zero, suc, List, [], ◌∷◌, ◌++◌, length, map, replicate, cond, is_some, Option}
+use Rattle.papi_tools.proofs.Words.{Some, Vec, Global, vec_len, inl, inr, refl, sym, ap, ◌∙◌, arith, append_assoc, length-map, map-append}
+use Rattle.papi_tools.proofs.Words.{replicate_more, sum_by-append, map-map, Rose, Tape, Coming, ReaderView, faults_of, SomeFailed, empty_stream}
+use Rattle.papi_tools.proofs.Words.{sources_in, stream_of, streams_of}
 
 -- one empty stream more
 pub one_empty_more : {X : Type 0} (named now : List X) (x : X) (m n k : ℕ) → now ≡ named ++ replicate (n - m) x → m ≤ n → k ≡ n + 1 → now ++ x ∷ [] ≡ named ++ replicate (k - m) x

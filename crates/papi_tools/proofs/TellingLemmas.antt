@@ -1,13 +1,6 @@
 -- What handlers have been told: all of their notes, or a prefix of them.
-use Rattle.std.proofs.Common.{◌≡◌, List, [], ◌++◌, append-nil, length, Result, Ok, Err, refl, sym, ap, ◌∙◌, arith, slice_index_or}
-use Rattle.std.proofs.lemmas.List.{take_all}
-use Rattle.overflow_dispatch.specs.declared.handler.Note.{Note}
-use Rattle.overflow_dispatch.specs.Notes.{EachAdded, EachBegun, EachGrown}
-use Rattle.papi_tools.specs.Saying.{TellsNotes}
-use Rattle.papi_tools.specs.Openings.{Verdict}
-use Rattle.papi_tools.specs.Verdict.{ended, notes_in}
-use Rattle.papi_tools.specs.declared.refusal.Refusal.{Refusal}
-use Rattle.papi_tools.specs.declared.status.Status.{Status}
+use Rattle.papi_tools.proofs.Words.{◌≡◌, List, [], ◌++◌, append-nil, length, Result, Ok, Err, refl, sym, ap, ◌∙◌, arith, slice_index_or, take_all}
+use Rattle.papi_tools.proofs.Words.{Note, EachAdded, EachBegun, EachGrown, TellsNotes, Verdict, ended, notes_in, Refusal, Status}
 use Rattle.papi_tools.specs.declared.status.Status.TheVariants.{Memory}
 
 -- all notes are a prefix of them

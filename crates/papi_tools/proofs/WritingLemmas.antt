@@ -1,8 +1,6 @@
 -- Two texts that are written one after the other.
-use Rattle.std.proofs.Common.{◌≡◌, ◌≤◌, ◌+◌, ◌++◌, ℕ, List, Option, Some, None, length, take, refl, sym, ap, ◌∙◌, append_assoc, length-append, arith, OnErr, Result, Ok, Err}
-use Rattle.std.proofs.Math.Seq.{take-append-add}
-use Rattle.std.proofs.lemmas.List.{take-append-le}
-use Rattle.papi_base.specs.Outside.{appended}
+use Rattle.papi_tools.proofs.Words.{◌≡◌, ◌≤◌, ◌+◌, ◌++◌, ℕ, List, Option, Some, None, length, take, refl, sym, ap, ◌∙◌, append_assoc, length-append}
+use Rattle.papi_tools.proofs.Words.{arith, OnErr, Result, Ok, Err, take-append-add, take-append-le, appended}
 
 appended_twice : (o : Option (List ℕ)) (xs ys : List ℕ) → appended (appended o xs) ys ≡ appended o (xs ++ ys)
 appended_twice None xs ys = refl

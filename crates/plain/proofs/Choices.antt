@@ -1,11 +1,8 @@
 -- Choices tried one after another.
-use Rattle.std.proofs.Common.{◌≡◌, ◌≢◌, ℕ, suc, ◌+◌, ◌-◌, ◌<◌, ◌≤◌, ◌==◌, Bool, false, not, ◌&&◌, refl, ◌∙◌, arith, inl, inr, append-nil, List, [], ◌∷◌, ◌++◌, length, get_or, drop, map, Option, Some, None, slice_get, append_assoc}
-use Rattle.std.specs.Prelude.{filter, find, if◌then◌else◌}
-use Rattle.std.specs.List.{flat_map, list_any, range_with_len}
-use Rattle.std.specs.Int.{bit_at}
-use Rattle.std.proofs.lemmas.Bool.{cases_Bool, eq-eqb, ne_eqb}
-use Rattle.std.proofs.lemmas.List.{drop_more, drop_all}
-use Rattle.counter_alloc.specs.Listing.{all_distinct, assigns, choices, least, members}
+use Rattle.plain.proofs.Words.{◌≡◌, ◌≢◌, ℕ, suc, ◌+◌, ◌-◌, ◌<◌, ◌≤◌, ◌==◌, Bool, false, not, ◌&&◌, refl, ◌∙◌, arith, inl, inr, append-nil, List, []}
+use Rattle.plain.proofs.Words.{◌∷◌, ◌++◌, length, get_or, drop, map, Option, Some, None, slice_get, append_assoc, filter, find, if◌then◌else◌}
+use Rattle.plain.proofs.Words.{flat_map, list_any, range_with_len, bit_at, cases_Bool, eq-eqb, ne_eqb, drop_more, drop_all, all_distinct, assigns}
+use Rattle.plain.proofs.Words.{choices, least, members}
 
 -- ---- whether a counter comes twice
 

@@ -1,14 +1,9 @@
 -- The tree that the tokens before an end spell last: its root is the last token.
-use Rattle.std.proofs.Common.{◌≡◌, ◌<◌, ◌≤◌, ◌^◌, ◌+◌, ◌-◌, ℕ, zero, suc, List, [], ◌∷◌, ◌++◌, length, get_or, take, map, Some, None, slice_get, refl, sym, ap, ◌∙◌, arith, append_assoc, length-append, length-take-le, take-take, ℤ, pos}
-use Rattle.std.specs.Prelude.{slice_index_or}
-use Rattle.std.proofs.lemmas.List.{take_more, take_all, take-append-le}
-use Rattle.postfix_rules.specs.Faults.{fault_from, height_after, token_cause}
-use Rattle.postfix_rules.specs.Trees.{Tree, Constant, Count, Node, spelling}
-use Rattle.postfix_rules.specs.Values.{applied, tree_value}
-use Rattle.postfix_rules.specs.declared.token.Operator.{Operator}
-use Rattle.postfix_rules.specs.declared.token.Token.{Token}
+use Rattle.plain.proofs.Words.{◌≡◌, ◌<◌, ◌≤◌, ◌^◌, ◌+◌, ◌-◌, ℕ, zero, suc, List, [], ◌∷◌, ◌++◌, length, get_or, take, map, Some, None, slice_get}
+use Rattle.plain.proofs.Words.{refl, sym, ap, ◌∙◌, arith, append_assoc, length-append, length-take-le, take-take, ℤ, pos, slice_index_or, take_more}
+use Rattle.plain.proofs.Words.{take_all, take-append-le, fault_from, height_after, token_cause, Tree, Constant, Count, Node, spelling, applied}
+use Rattle.plain.proofs.Words.{tree_value, Operator, Token, clear-first, constant-ok}
 use Rattle.postfix_rules.specs.declared.token.Token.TheVariants as token
-use Rattle.postfix_rules.proofs.Spelled.{clear-first, constant-ok}
 
 record SameEnds (xs ys : List Token) (x y : Token) : Type 0 where
   fronts : xs ≡ ys

@@ -5,3 +5,4 @@ pub mod Pieces
 pub mod Sets
 pub mod Sums
 pub mod Turning
+pub mod Words

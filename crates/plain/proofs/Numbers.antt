@@ -1,16 +1,10 @@
 -- Numbers by their digits.
 use Rattle.std.proofs.Common.{◌≡◌, ◌∙◌, ◌+◌, ◌-◌, ◌*◌, ◌^◌, ◌<◌, ◌≤◌, ◌≢◌, ◌==◌, ◌&&◌, ◌||◌, ◌∷◌, ℕ, Bool, true, false, not, List, [], Option, Some, None, length, get_or, refl, sym, arith, min, inl, inr, eq-eqb}
-use Rattle.std.specs.Prelude.{IfSome, if◌then◌else◌, nat_le}
-use Rattle.std.specs.Char.{digit_value}
+use Rattle.plain.proofs.Words.{IfSome, if◌then◌else◌, nat_le, digit_value, list_all, AllDigits, digits_value, cases_lt, ltb-true, le-leb, lt-leb}
+use Rattle.plain.proofs.Words.{ne_eqb, and_parts, or_right, and_right, nat_tests, digits_value-lt, le-mul_of_pos_right, mul-le-mul_right}
+use Rattle.plain.proofs.Words.{pow-le-pow_right, not_given, is_given}
 use Rattle.std.specs.Char as char
-use Rattle.std.specs.List.{list_all}
-use Rattle.std.specs.Str.Parse.{AllDigits, digits_value}
-use Rattle.std.proofs.lemmas.Bool.{cases_lt, ltb-true, le-leb, lt-leb, ne_eqb, and_parts, or_right, and_right}
-use Rattle.std.proofs.lemmas.Bool.Decides.{nat_tests}
-use Rattle.std.proofs.lemmas.Int.Digits.{digits_value-lt}
-use Rattle.std.proofs.Math.Nat.{le-mul_of_pos_right, mul-le-mul_right, pow-le-pow_right}
 use Rattle.papi_base.specs.Numerals.{decimal_in, hex_in, is_decimal, is_digit, is_empty, is_hex_digit, is_numeral}
-use Rattle.papi_base.proofs.Steps.{not_given, is_given}
 
 -- the greatest number of 64 bits
 abbrev pub top : ℕ

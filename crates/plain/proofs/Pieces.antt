@@ -1,23 +1,11 @@
 -- The pieces of a tape between its newlines, as lines.
-use Rattle.std.proofs.Common.{◌≡◌, ◌∙◌, ◌+◌, ◌-◌, ◌<◌, ◌≤◌, ◌++◌, ◌∷◌, ℕ, Bool, Bor, true, false, List, [], drop, get_or, length, length-drop, map, nat_lt, refl, sym, ap, arith}
-use Rattle.std.specs.Prelude.{if◌then◌else◌}
-use Rattle.std.proofs.lemmas.Bool.{ltb-false}
-use Rattle.std.proofs.lemmas.Bool.Decides.{nat_tests}
+use Rattle.plain.proofs.Words.{◌≡◌, ◌∙◌, ◌+◌, ◌-◌, ◌<◌, ◌≤◌, ◌++◌, ◌∷◌, ℕ, Bool, Bor, true, false, List, [], drop, get_or, length, length-drop, map}
+use Rattle.plain.proofs.Words.{nat_lt, refl, sym, ap, arith, if◌then◌else◌, ltb-false, nat_tests, flag_bit, Bad, Coming, Dry, LineCause, Occ, End}
+use Rattle.plain.proofs.Words.{LARGEST_STREAM, LONGEST_LINE, Judgement, LineStart, judged, line_text, text_judged, Line, is_last_line, lines_of}
+use Rattle.plain.proofs.Words.{after, is_bad, joined, occurs_from, occurrence_of}
 use Rattle.std.proofs.lemmas.List.{append_assoc, drop_all, drop_more, get_or-map, length-map}
-use Rattle.papi_base.specs.Numerals.{flag_bit}
-use Rattle.papi_base.specs.Streams.{Bad, Coming, Dry}
-use Rattle.papi_base.specs.declared.occurrence.LineCause.{LineCause}
 use Rattle.papi_base.specs.declared.occurrence.LineCause.TheVariants as cause
-use Rattle.papi_base.specs.declared.occurrence.Occ.{Occ}
-use Rattle.papi_base.specs.declared.outside.Ending.TheVariants.{End}
-use Rattle.stream_reader.specs.declared.limits.TheConstants.{LARGEST_STREAM, LONGEST_LINE}
-use Rattle.stream_reader.specs.declared.line.Judgement.{Judgement}
 use Rattle.stream_reader.specs.declared.line.Judgement.TheVariants as judgement
-use Rattle.stream_reader.specs.declared.line.LineStart.{LineStart}
-use Rattle.stream_reader.specs.Judged.{judged, line_text, text_judged}
-use Rattle.stream_reader.specs.Lines.{Line, is_last_line, lines_of}
-use Rattle.stream_reader.specs.Occurs.{after, is_bad, joined, occurs_from}
-use Rattle.plain.specs.Tapes.{occurrence_of}
 
 -- what the lines of some pieces say
 abbrev pub said_from : LineStart → List (List ℕ) → Coming

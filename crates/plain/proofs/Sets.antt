@@ -1,13 +1,8 @@
 -- Sets of places tried one after another.
-use Rattle.std.proofs.Common.{◌≡◌, ◌≢◌, ℕ, suc, ◌+◌, ◌-◌, ◌<◌, ◌==◌, ◌^◌, Bool, true, false, not, refl, ap, ◌∙◌, arith, List, [], ◌∷◌, length, drop, take, Some, slice_get}
+use Rattle.plain.proofs.Words.{◌≡◌, ◌≢◌, ℕ, suc, ◌+◌, ◌-◌, ◌<◌, ◌==◌, ◌^◌, Bool, true, false, not, refl, ap, ◌∙◌, arith, List, [], ◌∷◌, length, drop}
+use Rattle.plain.proofs.Words.{take, Some, slice_get, range_with_len, bit_at, ne_eqb, drop_more, counters_from, counters_of, deficient_sets}
+use Rattle.plain.proofs.Words.{in_each_set, shortest_prefix, assigns, least}
 use Rattle.std.specs.Prelude.{count_ones, nat_lt, filter, find, unwrap_or, is_some, if◌then◌else◌}
-use Rattle.std.specs.List.{range_with_len}
-use Rattle.std.specs.Int.{bit_at}
-use Rattle.std.proofs.lemmas.Bool.{ne_eqb}
-use Rattle.std.proofs.lemmas.List.{drop_more}
-use Rattle.counter_alloc.specs.Assignments.{counters_from, counters_of}
-use Rattle.counter_alloc.specs.BlameOf.{deficient_sets, in_each_set, shortest_prefix}
-use Rattle.counter_alloc.specs.Listing.{assigns, least}
 
 -- a place that is no member adds no counters
 pub skipped : (allowed : List ℕ) (members place : ℕ) → place < length allowed → bit_at members place ≢ 1

@@ -1,13 +1,7 @@
 -- Sums over the occurrences of a window.
-use Rattle.std.proofs.Common.{get_or, get_or-take, length-take-le, ◌≡◌, ℕ, zero, suc, ◌+◌, ◌-◌, ◌<◌, ◌≤◌, Bool, cond, refl, sym, ap, ◌∙◌, arith, List, [], ◌∷◌, length, take, drop, Option, Some, None, slice_get}
-use Rattle.std.specs.Prelude.{count_by, sum}
-use Rattle.std.specs.List.{range_with_len}
-use Rattle.std.proofs.lemmas.List.Sums.{sum_by-cons}
-use Rattle.std.proofs.lemmas.Option.{slice_get-get_or}
-use Rattle.papi_base.specs.declared.occurrence.Occ.{Occ}
-use Rattle.papi_base.proofs.Steps.{drop_at}
-use Rattle.session_model.specs.Account.{last_after}
-use Rattle.session_model.specs.Counts.{along}
+use Rattle.plain.proofs.Words.{get_or, get_or-take, length-take-le, ◌≡◌, ℕ, zero, suc, ◌+◌, ◌-◌, ◌<◌, ◌≤◌, Bool, cond, refl, sym, ap, ◌∙◌, arith}
+use Rattle.plain.proofs.Words.{List, [], ◌∷◌, length, take, drop, Option, Some, None, slice_get, count_by, sum, range_with_len, sum_by-cons}
+use Rattle.plain.proofs.Words.{slice_get-get_or, Occ, drop_at, last_after, along}
 
 -- ---- the last occurrence
 

@@ -1,18 +1,7 @@
 -- Weights and estimates of native events that take turns.
-use Rattle.std.proofs.Common.{◌≡◌, ◌≢◌, ℕ, ◌-◌, ◌*◌, ◌/◌, Bool, true, false, refl, sym, ap, ap₂, ◌∙◌, List, length, take, Some, None, slice_get}
-use Rattle.std.specs.Prelude.{if◌then◌else◌}
-use Rattle.std.proofs.lemmas.Bool.{ne_eqb}
-use Rattle.papi_base.specs.declared.bits.Domain.{Domain}
-use Rattle.papi_base.specs.declared.native.Native.{Native}
-use Rattle.papi_base.specs.declared.occurrence.Occ.{Occ}
-use Rattle.papi_base.specs.Weight.{weight_of}
-use Rattle.multiplex.specs.Turns.{Turns, active, estimate, has_turn, weight_in_turn}
-use Rattle.session_model.specs.Account.{Kept, clock, last_after}
-use Rattle.session_model.specs.Counts.{along, weighed}
-use Rattle.session_model.specs.Estimates.{estimated_in, total}
-use Rattle.plain.specs.declared.counting.Turn.{Turn}
-use Rattle.plain.specs.declared.counting.Window.{Window}
-use Rattle.plain.specs.Windows.{IsStoppedOver, turns_in}
+use Rattle.plain.proofs.Words.{◌≡◌, ◌≢◌, ℕ, ◌-◌, ◌*◌, ◌/◌, Bool, true, false, refl, sym, ap, ap₂, ◌∙◌, List, length, take, Some, None, slice_get}
+use Rattle.plain.proofs.Words.{if◌then◌else◌, ne_eqb, Domain, Native, Occ, weight_of, Turns, active, estimate, has_turn, weight_in_turn, Kept, clock}
+use Rattle.plain.proofs.Words.{last_after, along, weighed, estimated_in, total, Turn, Window, IsStoppedOver, turns_in}
 use Rattle.plain.proofs.Sums.{along_at}
 
 -- an occurrence weighs something in the group's turns alone

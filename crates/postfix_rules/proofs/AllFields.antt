@@ -1,13 +1,9 @@
 -- Equality as it is derived is the test of all fields.
-use Rattle.std.proofs.Common.{◌≡◌, Bool, true, false, ◌&&◌, ◌==◌, refl, ◌∙◌}
-use Rattle.std.proofs.Math.Bool.{and_assoc}
-use mathlib.Core.Bool.{beq}
-use Rattle.papi_base.specs.declared.native.Native.{Native}
-use Rattle.papi_base.specs.declared.native.EventRef.{EventRef}
+use Rattle.postfix_rules.proofs.Words.{◌≡◌, Bool, true, false, ◌&&◌, ◌==◌, refl, ◌∙◌, and_assoc, beq, Native, EventRef, same_bool, same_event}
+use Rattle.postfix_rules.proofs.Words.{same_native}
 use Rattle.papi_base.specs.declared.native.EventRef.TheVariants as event
 use Rattle.papi_base.specs.contracts.native.NativePartialEq.TheImpl as native
 use Rattle.papi_base.specs.contracts.native.EventRefPartialEq.TheImpl as event_ref
-use Rattle.postfix_rules.specs.Sameness.{same_bool, same_event, same_native}
 
 -- the tests in one row, with the modifiers grouped
 in_row : (a b c d e f g h i j k : Bool) → (a && (b && (c && (d && (e && ((f && (g && (h && (i && j)))) && k)))))) ≡ (a && b && c && d && e && f && g && h && i && j && k)

@@ -1,7 +1,6 @@
 -- Native events of one component, one by one.
-use Rattle.std.proofs.Common.{◌≡◌, ◌<◌, ◌≤◌, ◌∷◌, ℕ, zero, suc, List, [], Some, length, slice_get, slice_index_or, refl, arith}
-use Rattle.papi_base.specs.declared.native.Native.{Native}
-use Rattle.postfix_rules.specs.Rules.{OfOneComponent}
+use Rattle.postfix_rules.proofs.Words.{◌≡◌, ◌<◌, ◌≤◌, ◌∷◌, ℕ, zero, suc, List, [], Some, length, slice_get, slice_index_or, refl, arith, Native}
+use Rattle.postfix_rules.proofs.Words.{OfOneComponent}
 
 -- those below a place are of a component
 abbrev pub SameBelow : List Native → ℕ → ℕ → Type 0

@@ -1,14 +1,7 @@
 -- The causes of numbers that are too large.
-use Rattle.std.proofs.Common.{◌≡◌, ◌<◌, ◌≤◌, ◌^◌, ℕ, Some, None, true, false, refl, arith, tests, nat_lt}
-use Rattle.std.proofs.lemmas.Bool.{le-ltb}
-use Rattle.std.specs.Prelude.{if◌then◌else◌}
-use Rattle.std.specs.Str.Parse.{digits_value}
-use Rattle.papi_base.proofs.Steps.{is_given, not_given}
-use Rattle.papi_base.specs.Numerals.{is_numeral}
+use Rattle.postfix_rules.proofs.Words.{◌≡◌, ◌<◌, ◌≤◌, ◌^◌, ℕ, Some, None, true, false, refl, arith, tests, nat_lt, le-ltb, if◌then◌else◌}
+use Rattle.postfix_rules.proofs.Words.{digits_value, is_given, not_given, is_numeral, token_cause, constant_part, native_part, Text}
 use Rattle.postfix_rules.specs.declared.fault.FormulaCause.TheVariants as cause
-use Rattle.postfix_rules.specs.Faults.{token_cause}
-use Rattle.postfix_rules.specs.Tokens.{constant_part, native_part}
-use Rattle.table_rows.specs.Texts.{Text}
 
 -- a number that needs more than 64 bits
 pub wide : (n : ℕ) → None ≡ (if nat_lt n (2 ^ 64) then Some n else None) → 2 ^ 64 ≤ n

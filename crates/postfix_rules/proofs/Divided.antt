@@ -1,10 +1,7 @@
 -- Rust's wrapping division is the wrapped quotient.
-use Rattle.std.proofs.Common.{◌≡◌, ◌-◌, ◌/◌, ◌%◌, ◌^◌, ◌≤◌, ◌==◌, ℕ, zero, suc, Bool, true, false, ℤ, pos, negsuc, neg_ℤ, unsigned_abs}
-use Rattle.std.proofs.Common.{int_div, FitsSigned, w64, refl, ap, arith, div-le_self, mod-eq_of_lt, to_z, of_z}
-use Rattle.std.specs.Prelude.{if◌then◌else◌}
-use Rattle.std.proofs.lemmas.Bool.{eqb-true}
-use Rattle.std.specs.Int.{int_wrap, int_wrapping_div}
-use Rattle.postfix_rules.specs.Values.{divided, wrapped}
+use Rattle.postfix_rules.proofs.Words.{◌≡◌, ◌-◌, ◌/◌, ◌%◌, ◌^◌, ◌≤◌, ◌==◌, ℕ, zero, suc, Bool, true, false, ℤ, pos, negsuc, neg_ℤ, unsigned_abs}
+use Rattle.postfix_rules.proofs.Words.{int_div, FitsSigned, w64, refl, ap, arith, div-le_self, mod-eq_of_lt, to_z, of_z, if◌then◌else◌, eqb-true}
+use Rattle.postfix_rules.proofs.Words.{int_wrap, int_wrapping_div, divided, wrapped}
 
 abs-neg : (n : ℕ) → unsigned_abs (neg_ℤ (pos n)) ≡ n
 abs-neg zero = refl

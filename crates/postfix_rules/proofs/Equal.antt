@@ -1,11 +1,7 @@
 -- The tests for equal natives and events mean equality.
-use Rattle.std.proofs.Common.{◌≡◌, ℕ, Bool, true, false, ◌==◌, refl, sym, ap, ◌∙◌, arith}
-use Rattle.std.proofs.lemmas.Bool.Decides.{nat_tests}
-use Rattle.papi_base.specs.declared.native.Native.{Native}
-use Rattle.papi_base.specs.declared.native.EventRef.{EventRef}
+use Rattle.postfix_rules.proofs.Words.{◌≡◌, ℕ, Bool, true, false, ◌==◌, refl, sym, ap, ◌∙◌, arith, nat_tests, Native, EventRef, same_bool}
+use Rattle.postfix_rules.proofs.Words.{same_native, same_event, SameEvents, SameNatives}
 use Rattle.papi_base.specs.declared.native.EventRef.TheVariants as event
-use Rattle.postfix_rules.specs.Sameness.{same_bool, same_native, same_event}
-use Rattle.postfix_rules.specs.Laws.{SameEvents, SameNatives}
 
 same_bool_is : (a b : Bool) → same_bool a b ≡ true → a ≡ b
 same_bool_is true b e = sym e

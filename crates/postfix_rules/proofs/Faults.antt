@@ -1,16 +1,10 @@
 -- The fault that heights find is the fault of the definition.
-use Rattle.std.proofs.Common.{◌≡◌, ◌∙◌, ◌+◌, ◌<◌, ◌≤◌, ◌∷◌, ◌++◌, ℕ, List, [], Option, Some, None, length, take, slice_get, map, refl, sym, ap, ap₂, subst, arith, append_assoc, append-nil, inl, inr}
-use Rattle.std.specs.Option.{option_map_or}
-use Rattle.std.proofs.lemmas.List.{take_all, take_at, length-append, map-append}
-use Rattle.std.proofs.lemmas.Bool.{cases_lt}
-use Rattle.std.proofs.lemmas.Option.{slice_get_past}
-use Rattle.papi_base.proofs.Steps.{get_middle}
-use Rattle.postfix_rules.specs.declared.fault.FormulaCause.{FormulaCause}
-use Rattle.postfix_rules.specs.declared.token.Token.{Token}
+use Rattle.postfix_rules.proofs.Words.{◌≡◌, ◌∙◌, ◌+◌, ◌<◌, ◌≤◌, ◌∷◌, ◌++◌, ℕ, List, [], Option, Some, None, length, take, slice_get, map, refl, sym}
+use Rattle.postfix_rules.proofs.Words.{ap, ap₂, subst, arith, append_assoc, append-nil, inl, inr, option_map_or, take_all, take_at, length-append}
+use Rattle.postfix_rules.proofs.Words.{map-append, cases_lt, slice_get_past, get_middle, FormulaCause, Token, Tree, Constant, Count, Node, pile_from}
+use Rattle.postfix_rules.proofs.Words.{pile_text, spelling, IsFault, Part, Pile, end_cause, fault_from, height_after, place_cause, token_cause}
+use Rattle.postfix_rules.proofs.Words.{tokens_among}
 use Rattle.postfix_rules.specs.declared.token.Token.TheVariants as token
-use Rattle.postfix_rules.specs.Trees.{Tree, Constant, Count, Node, pile_from, pile_text, spelling}
-use Rattle.postfix_rules.specs.Faults.{IsFault, Part, Pile, end_cause, fault_from, height_after, place_cause, token_cause}
-use Rattle.postfix_rules.specs.Reading.{tokens_among}
 use Rattle.postfix_rules.proofs.Piles.{pile-made}
 use Rattle.postfix_rules.proofs.Spelled.{few-after, one-tree}
 

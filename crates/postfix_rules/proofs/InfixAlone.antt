@@ -1,12 +1,10 @@
 -- Tokens in infix order write one tree at most.
-use Rattle.std.proofs.Common.{◌≡◌, ◌∙◌, ◌∷◌, ◌++◌, List, [], Option, Some, None, map, refl, sym, ap, append_assoc, append-nil}
-use Rattle.postfix_rules.specs.declared.infix_token.InfixToken.{InfixToken}
+use Rattle.postfix_rules.proofs.Words.{◌≡◌, ◌∙◌, ◌∷◌, ◌++◌, List, [], Option, Some, None, map, refl, sym, ap, append_assoc, append-nil, InfixToken}
+use Rattle.postfix_rules.proofs.Words.{Operator, InfixPart}
 use Rattle.postfix_rules.specs.declared.infix_token.InfixToken.TheVariants as sign
-use Rattle.postfix_rules.specs.declared.token.Operator.{Operator}
 use Rattle.postfix_rules.specs.declared.token.Operator.TheVariants as op
 use Rattle.postfix_rules.specs.declared.token.Token.TheVariants as token
 use Rattle.postfix_rules.specs.Infix.{IsPhrase, OneTree, Written, Number, Native, Two, Inside, factor, sum, term, tree_of, wording}
-use Rattle.postfix_rules.specs.InfixTokens.{InfixPart}
 use Rattle.postfix_rules.proofs.InfixStates.{Frame, Held, State, done, frame, held, joined, stepped, wants}
 
 -- the state after further tokens

@@ -1,24 +1,13 @@
 -- A text in infix order reads as the grammar says, and no text both writes a tree and is at fault.
-use Rattle.std.proofs.Common.{◌≡◌, ◌∙◌, ◌+◌, ◌<◌, ◌∷◌, ◌++◌, ℕ, Bool, true, false, List, [], ap₂, ◌⊎◌, Option, Some, None, inl, inr, length, map, refl, sym, ap, subst, arith}
+use Rattle.postfix_rules.proofs.Words.{◌≡◌, ◌∙◌, ◌+◌, ◌<◌, ◌∷◌, ◌++◌, ℕ, Bool, true, false, List, [], ap₂, ◌⊎◌, Option, Some, None, inl, inr, length}
+use Rattle.postfix_rules.proofs.Words.{map, refl, sym, ap, subst, arith, cases_order, map-append, fold-append, slice_get_within, FormulaCause}
+use Rattle.postfix_rules.proofs.Words.{Operator, Token, FormulaView, Written, Two, Inside, need, wording, HasCauseAt, IsEndFault, IsInfixFault}
+use Rattle.postfix_rules.proofs.Words.{WritesTree, begins_factor, cause_at, must_begin, open_after, open_at_end, FirstInfixFaults, FromOneInfix}
+use Rattle.postfix_rules.proofs.Words.{SameTree, infix_of, InfixPart, infix_parts, RefusedFormula, Tree, spelling}
 use Rattle.std.specs.Prelude.{Result, Ok, Err, fold, slice_get}
-use Rattle.std.proofs.lemmas.Bool.{cases_order}
-use Rattle.std.proofs.lemmas.List.{map-append}
-use Rattle.std.proofs.lemmas.List.Sums.{fold-append}
-use Rattle.std.proofs.lemmas.Option.{slice_get_within}
-use Rattle.postfix_rules.specs.declared.fault.FormulaCause.{FormulaCause}
 use Rattle.postfix_rules.specs.declared.fault.FormulaCause.TheVariants as cause
 use Rattle.postfix_rules.specs.declared.infix_token.InfixToken.TheVariants as sign
-use Rattle.postfix_rules.specs.declared.token.Operator.{Operator}
-use Rattle.postfix_rules.specs.declared.token.Token.{Token}
 use Rattle.postfix_rules.specs.declared.token.Token.TheVariants as token
-use Rattle.postfix_rules.specs.Faults.{FormulaView}
-use Rattle.postfix_rules.specs.Infix.{Written, Two, Inside, need, wording}
-use Rattle.postfix_rules.specs.InfixFaults.{HasCauseAt, IsEndFault, IsInfixFault, WritesTree, begins_factor, cause_at, must_begin, open_after, open_at_end}
-use Rattle.postfix_rules.specs.InfixLaws.{FirstInfixFaults, FromOneInfix, SameTree}
-use Rattle.postfix_rules.specs.InfixReading.{infix_of}
-use Rattle.postfix_rules.specs.InfixTokens.{InfixPart, infix_parts}
-use Rattle.postfix_rules.specs.Reading.{RefusedFormula}
-use Rattle.postfix_rules.specs.Trees.{Tree, spelling}
 use Rattle.postfix_rules.proofs.InfixAlone.{one_tree}
 use Rattle.postfix_rules.proofs.InfixSound.{Says, text-says}
 

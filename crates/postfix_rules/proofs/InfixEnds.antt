@@ -1,19 +1,10 @@
 -- Reading a text in infix order, part by part, as the definition does.
-use Rattle.std.proofs.Common.{◌≡◌, ◌∙◌, ◌+◌, ◌<◌, ◌≤◌, ◌∷◌, ℕ, Bool, true, false, List, [], Option, Some, None, length, map, get_or, drop, refl, sym, ap, arith}
-use Rattle.std.specs.Prelude.{◌↔◌, IsTrue, Ok, is_some, not}
-use Rattle.std.specs.Option.{option_map_or}
-use Rattle.std.proofs.lemmas.Bool.{lt-ltb}
-use Rattle.std.proofs.lemmas.List.{drop_all, drop_more}
-use Rattle.papi_base.proofs.Steps.{none_of}
-use Rattle.postfix_rules.specs.declared.fault.FormulaCause.{FormulaCause}
+use Rattle.postfix_rules.proofs.Words.{◌≡◌, ◌∙◌, ◌+◌, ◌<◌, ◌≤◌, ◌∷◌, ℕ, Bool, true, false, List, [], Option, Some, None, length, map, get_or, drop}
+use Rattle.postfix_rules.proofs.Words.{refl, sym, ap, arith, ◌↔◌, IsTrue, Ok, is_some, not, option_map_or, lt-ltb, drop_all, drop_more, none_of}
+use Rattle.postfix_rules.proofs.Words.{FormulaCause, InfixToken, Token, IsFormula, end_cause, fault_from, height_after, token_cause, infix_cause}
+use Rattle.postfix_rules.proofs.Words.{OrderView, ended_tokens, infix_end, infix_ended, infix_of, moved_by, order_begun, order_cause, order_moved}
+use Rattle.postfix_rules.proofs.Words.{refused_at, InfixPart, infix_parts, Text}
 use Rattle.postfix_rules.specs.declared.fault.FormulaCause.TheVariants as cause
-use Rattle.postfix_rules.specs.declared.infix_token.InfixToken.{InfixToken}
-use Rattle.postfix_rules.specs.declared.token.Token.{Token}
-use Rattle.postfix_rules.specs.Faults.{IsFormula, end_cause, fault_from, height_after, token_cause}
-use Rattle.postfix_rules.specs.InfixFaults.{infix_cause}
-use Rattle.postfix_rules.specs.InfixReading.{OrderView, ended_tokens, infix_end, infix_ended, infix_of, moved_by, order_begun, order_cause, order_moved, refused_at}
-use Rattle.postfix_rules.specs.InfixTokens.{InfixPart, infix_parts}
-use Rattle.table_rows.specs.Texts.{Text}
 use Rattle.postfix_rules.proofs.Spelled.{few-after}
 
 -- ---- whether tokens are a formula

@@ -1,15 +1,10 @@
 -- The places of a stack that the value of a tree needs.
-use Rattle.std.proofs.Common.{◌≡◌, ◌∙◌, ◌+◌, ◌<◌, ◌≤◌, ◌^◌, ◌∷◌, ◌++◌, ℕ, List, [], Some, None, map, refl, sym, ap, subst, arith, tests, ◌-◌, append_assoc, append-nil, nat_le}
-use Rattle.std.specs.Prelude.{if◌then◌else◌}
-use Rattle.std.proofs.lemmas.Bool.{cond_both, le-ltb, lt-ltb}
-use Rattle.std.proofs.lemmas.List.{map-append}
+use Rattle.postfix_rules.proofs.Words.{◌≡◌, ◌∙◌, ◌+◌, ◌<◌, ◌≤◌, ◌^◌, ◌∷◌, ◌++◌, ℕ, List, [], Some, None, map, refl, sym, ap, subst, arith, tests, ◌-◌}
+use Rattle.postfix_rules.proofs.Words.{append_assoc, append-nil, nat_le, if◌then◌else◌, cond_both, le-ltb, lt-ltb, map-append, Operator, Token}
+use Rattle.postfix_rules.proofs.Words.{IsFormula, Part, end_cause, fault_from, operand_cause, token_cause, spelling}
 use Rattle.postfix_rules.specs.declared.fault.FormulaCause.TheVariants as cause
-use Rattle.postfix_rules.specs.declared.token.Operator.{Operator}
-use Rattle.postfix_rules.specs.declared.token.Token.{Token}
 use Rattle.postfix_rules.specs.declared.token.Token.TheVariants as token
-use Rattle.postfix_rules.specs.Faults.{IsFormula, Part, end_cause, fault_from, operand_cause, token_cause}
 use Rattle.postfix_rules.specs.Infix.{Written, Number, Native, Two, Inside, need, tree_of}
-use Rattle.postfix_rules.specs.Trees.{spelling}
 use Rattle.postfix_rules.proofs.InfixStates.{Small}
 use Rattle.postfix_rules.proofs.Spelled.{clear-first, constant-ok, native-ok}
 use Rattle.postfix_rules.proofs.SoFar.{fault-next}

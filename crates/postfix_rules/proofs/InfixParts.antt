@@ -1,19 +1,12 @@
 -- The first part of a text in infix order, and what is after it.
-use Rattle.std.proofs.Common.{◌≡◌, ◌∙◌, ◌<◌, ◌≤◌, ◌+◌, ◌^◌, ◌∷◌, ℕ, suc, Bool, true, false, List, [], Some, None, cond, length, take, drop, refl, sym, ap, subst, arith}
+use Rattle.postfix_rules.proofs.Words.{◌≡◌, ◌∙◌, ◌<◌, ◌≤◌, ◌+◌, ◌^◌, ◌∷◌, ℕ, suc, Bool, true, false, List, [], Some, None, cond, length, take, drop}
+use Rattle.postfix_rules.proofs.Words.{refl, sym, ap, subst, arith, list_all, prefix_len, take_while, and_from, and_left, and_right, cond_both}
+use Rattle.postfix_rules.proofs.Words.{eq-eqb, eqb-true, ne_eqb, take_while-cons, drop_all, drop_more, is_digit, is_empty, is_numeral, Text, is_blank}
+use Rattle.postfix_rules.proofs.Words.{FormulaCause, Part, operand_cause, token_cause, infix_cause, place_of_operand, InfixPart, begins_digits}
+use Rattle.postfix_rules.proofs.Words.{digits_of, in_infix, infix_from, sign_part, constant_part, native_part, operator_of}
 use Rattle.std.specs.Prelude.{◌&&◌, ◌||◌, ◌==◌, not, nat_lt, slice_index, if◌then◌else◌}
-use Rattle.std.specs.List.{list_all, prefix_len, take_while}
-use Rattle.std.proofs.lemmas.Bool.{and_from, and_left, and_right, cond_both, eq-eqb, eqb-true, ne_eqb}
-use Rattle.std.proofs.lemmas.List.Sums.{take_while-cons}
-use Rattle.std.proofs.lemmas.List.{drop_all, drop_more}
-use Rattle.papi_base.specs.Numerals.{is_digit, is_empty, is_numeral}
-use Rattle.table_rows.specs.Texts.{Text, is_blank}
-use Rattle.postfix_rules.specs.declared.fault.FormulaCause.{FormulaCause}
 use Rattle.postfix_rules.specs.declared.fault.FormulaCause.TheVariants as cause
 use Rattle.postfix_rules.specs.declared.token.Token.TheVariants as token
-use Rattle.postfix_rules.specs.Faults.{Part, operand_cause, token_cause}
-use Rattle.postfix_rules.specs.InfixFaults.{infix_cause, place_of_operand}
-use Rattle.postfix_rules.specs.InfixTokens.{InfixPart, begins_digits, digits_of, in_infix, infix_from, sign_part}
-use Rattle.postfix_rules.specs.Tokens.{constant_part, native_part, operator_of}
 
 -- a part that postfix order refuses wherever it stands is refused so in infix order
 pub refused-part : (part : Part) (why : FormulaCause) → ((natives height : ℕ) → natives < 2 ^ 32 → token_cause natives height part ≡ Some why)

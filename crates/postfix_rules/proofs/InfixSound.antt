@@ -1,24 +1,13 @@
 -- A formula in infix order is read as its grammar says, and refused at its first fault.
-use Rattle.std.proofs.Common.{◌≡◌, ◌∙◌, ◌+◌, ◌<◌, ◌∷◌, ◌++◌, ℕ, Bool, true, false, List, [], Option, Some, None, length, map, refl, sym, ap, subst, arith, append_assoc, append-nil, nat_lt}
+use Rattle.postfix_rules.proofs.Words.{◌≡◌, ◌∙◌, ◌+◌, ◌<◌, ◌∷◌, ◌++◌, ℕ, Bool, true, false, List, [], Option, Some, None, length, map, refl, sym, ap}
+use Rattle.postfix_rules.proofs.Words.{subst, arith, append_assoc, append-nil, nat_lt, ltb-false, ltb-true, length-append, map-append, take_at}
+use Rattle.postfix_rules.proofs.Words.{fold-append, slice_get_past, get_middle, FormulaCause, FormulaFault, Memory, InfixToken, FormulaView}
+use Rattle.postfix_rules.proofs.Words.{IsFormula, IsInfix, Written, need, tree_of, AreClear, HasCauseAt, IsInfixFault, ReadsInfix, WritesTree}
+use Rattle.postfix_rules.proofs.Words.{begins_factor, cause_at, infix_cause, must_begin, open_after, open_at_end, AnswersInfix, OrderView}
+use Rattle.postfix_rules.proofs.Words.{ended_tokens, infix_ended, infix_of, operator_tokens, order_begun, order_cause, order_moved, refused_at}
+use Rattle.postfix_rules.proofs.Words.{InfixPart, infix_parts, RefusedFormula, Tree, spelling, Text}
 use Rattle.std.specs.Prelude.{IfOk, Result, Ok, Err, slice_get}
-use Rattle.std.proofs.lemmas.Bool.{ltb-false, ltb-true}
-use Rattle.std.proofs.lemmas.List.{length-append, map-append, take_at}
-use Rattle.std.proofs.lemmas.List.Sums.{fold-append}
-use Rattle.std.proofs.lemmas.Option.{slice_get_past}
-use Rattle.papi_base.proofs.Steps.{get_middle}
-use Rattle.postfix_rules.specs.declared.fault.FormulaCause.{FormulaCause}
 use Rattle.postfix_rules.specs.declared.fault.FormulaCause.TheVariants as cause
-use Rattle.postfix_rules.specs.declared.fault.FormulaFault.{FormulaFault}
-use Rattle.postfix_rules.specs.declared.fault.FormulaFault.TheVariants.{Memory}
-use Rattle.postfix_rules.specs.declared.infix_token.InfixToken.{InfixToken}
-use Rattle.postfix_rules.specs.Faults.{FormulaView, IsFormula}
-use Rattle.postfix_rules.specs.Infix.{IsInfix, Written, need, tree_of}
-use Rattle.postfix_rules.specs.InfixFaults.{AreClear, HasCauseAt, IsInfixFault, ReadsInfix, WritesTree, begins_factor, cause_at, infix_cause, must_begin, open_after, open_at_end}
-use Rattle.postfix_rules.specs.InfixReading.{AnswersInfix, OrderView, ended_tokens, infix_ended, infix_of, operator_tokens, order_begun, order_cause, order_moved, refused_at}
-use Rattle.postfix_rules.specs.InfixTokens.{InfixPart, infix_parts}
-use Rattle.postfix_rules.specs.Reading.{RefusedFormula}
-use Rattle.postfix_rules.specs.Trees.{Tree, spelling}
-use Rattle.table_rows.specs.Texts.{Text}
 use Rattle.postfix_rules.proofs.InfixEnds.{end-deep, end-formula, end-missing, end-open, part-refused, part-taken}
 use Rattle.postfix_rules.proofs.InfixNeeds.{few-formula, formula-few}
 use Rattle.postfix_rules.proofs.InfixStates.{Held, IsFine, Small, State, by, done, held_tokens, joined, joined-sum, joined-tokens, joined-words, order_of, state_words, stepped, waits, wants}

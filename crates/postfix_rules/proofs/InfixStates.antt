@@ -1,17 +1,10 @@
 -- What stands of a formula in infix order after some of its tokens.
-use Rattle.std.proofs.Common.{◌≡◌, ◌<◌, ◌^◌, ◌∷◌, ◌++◌, ℕ, true, false, List, [], Option, Some, None, map, refl, append_assoc, append-nil}
-use Rattle.std.specs.Prelude.{⊤}
-use Rattle.std.specs.List.{AllByRecursion}
-use Rattle.postfix_rules.specs.declared.infix_token.InfixToken.{InfixToken}
+use Rattle.postfix_rules.proofs.Words.{◌≡◌, ◌<◌, ◌^◌, ◌∷◌, ◌++◌, ℕ, true, false, List, [], Option, Some, None, map, refl, append_assoc, append-nil, ⊤}
+use Rattle.postfix_rules.proofs.Words.{AllByRecursion, InfixToken, Waiting, Operator, Token, OrderView, operator_tokens, spelling}
 use Rattle.postfix_rules.specs.declared.infix_token.InfixToken.TheVariants as sign
-use Rattle.postfix_rules.specs.declared.postfix_order.Waiting.{Waiting}
-use Rattle.postfix_rules.specs.declared.token.Operator.{Operator}
 use Rattle.postfix_rules.specs.declared.token.Operator.TheVariants as op
-use Rattle.postfix_rules.specs.declared.token.Token.{Token}
 use Rattle.postfix_rules.specs.declared.token.Token.TheVariants as token
 use Rattle.postfix_rules.specs.Infix.{IsPhrase, Written, Number, Native, Two, Inside, factor, sum, term, tree_of, wording}
-use Rattle.postfix_rules.specs.InfixReading.{OrderView, operator_tokens}
-use Rattle.postfix_rules.specs.Trees.{spelling}
 
 -- what is written on an operator's left, and the operator
 pub data Held : Type 0 where

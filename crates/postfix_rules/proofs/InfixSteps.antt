@@ -1,19 +1,14 @@
 -- One token more of a formula in infix order.
-use Rattle.std.proofs.Common.{◌≡◌, ◌∙◌, ◌<◌, ◌^◌, ◌∷◌, ◌++◌, ℕ, Bool, true, false, List, [], Option, Some, None, length, refl, sym, ap, arith, append_assoc, append-nil}
+use Rattle.postfix_rules.proofs.Words.{◌≡◌, ◌∙◌, ◌<◌, ◌^◌, ◌∷◌, ◌++◌, ℕ, Bool, true, false, List, [], Option, Some, None, length, refl, sym, ap}
+use Rattle.postfix_rules.proofs.Words.{arith, append_assoc, append-nil, ltb-true, InfixToken, Waiting, Operator, Token, begins_factor, infix_cause}
+use Rattle.postfix_rules.proofs.Words.{open_after, place_of_operand, OrderView, operand_moved, operator_tokens, order_cause, order_moved, sum_moved}
+use Rattle.postfix_rules.proofs.Words.{spelling}
 use Rattle.std.specs.Prelude.{nat_lt}
-use Rattle.std.proofs.lemmas.Bool.{ltb-true}
 use Rattle.postfix_rules.specs.declared.fault.FormulaCause.TheVariants as cause
-use Rattle.postfix_rules.specs.declared.infix_token.InfixToken.{InfixToken}
 use Rattle.postfix_rules.specs.declared.infix_token.InfixToken.TheVariants as sign
-use Rattle.postfix_rules.specs.declared.postfix_order.Waiting.{Waiting}
-use Rattle.postfix_rules.specs.declared.token.Operator.{Operator}
 use Rattle.postfix_rules.specs.declared.token.Operator.TheVariants as op
-use Rattle.postfix_rules.specs.declared.token.Token.{Token}
 use Rattle.postfix_rules.specs.declared.token.Token.TheVariants as token
 use Rattle.postfix_rules.specs.Infix.{IsPhrase, Written, Number, Native, Inside, factor, tree_of, wording}
-use Rattle.postfix_rules.specs.InfixFaults.{begins_factor, infix_cause, open_after, place_of_operand}
-use Rattle.postfix_rules.specs.InfixReading.{OrderView, operand_moved, operator_tokens, order_cause, order_moved, sum_moved}
-use Rattle.postfix_rules.specs.Trees.{spelling}
 use Rattle.postfix_rules.proofs.Spelled.{kept_if}
 use Rattle.postfix_rules.proofs.InfixStates.{Frame, Held, IsAdding, IsFine, Small, State, by, done, frame, held, held_tokens, held_words, joined, joined-sum, joined-term}
 use Rattle.postfix_rules.proofs.InfixStates.{joined-tokens, joined-words, order_of, outer_tokens, outer_words, state_words, stepped, waits, wants}

@@ -1,14 +1,8 @@
 -- Natives of events, by induction on the events and on the natives that join.
 use Rattle.std.proofs.Common.{◌≡◌, inl, inr, ℕ, zero, suc, Bool, true, false, ◌||◌, List, [], ◌∷◌, ◌++◌, length, take, refl, sym, ◌∙◌, ap, arith, slice_get, Some, length-append, take-take}
-use Rattle.std.specs.Prelude.{if◌then◌else◌}
-use Rattle.std.proofs.lemmas.List.Folds.{list_any-append}
-use Rattle.std.proofs.Math.Seq.{take-length, take-append_seam}
-use Rattle.std.proofs.lemmas.Bool.{or_right, or_left}
-use Rattle.papi_base.specs.declared.native.Native.{Native}
-use Rattle.papi_base.specs.declared.native.EventRef.{EventRef}
-use Rattle.postfix_rules.specs.Sameness.{same_native, joined_by, among}
-use Rattle.postfix_rules.specs.Presets.{Book, natives_of, natives_of_event, natives_after}
-use Rattle.postfix_rules.specs.Laws.{OneMoreJoins, EarlierStay, EachIsAmong, NoneTwice}
+use Rattle.postfix_rules.proofs.Words.{if◌then◌else◌, list_any-append, take-length, take-append_seam, or_right, or_left, Native, EventRef}
+use Rattle.postfix_rules.proofs.Words.{same_native, joined_by, among, Book, natives_of, natives_of_event, natives_after, OneMoreJoins, EarlierStay}
+use Rattle.postfix_rules.proofs.Words.{EachIsAmong, NoneTwice}
 use Rattle.postfix_rules.proofs.Equal.{native_is, native_self}
 use Rattle.postfix_rules.proofs.Places.{get_pushed}
 

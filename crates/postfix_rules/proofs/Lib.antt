@@ -23,3 +23,4 @@ mod InfixAlone
 mod InfixBothWays
 pub mod AllFields
 pub mod Divided
+pub mod Words

@@ -1,13 +1,8 @@
 -- The first piece of a text, and what is after its bar.
-use Rattle.std.proofs.Common.{◌≡◌, ◌∙◌, ◌<◌, ◌+◌, ◌-◌, ◌∷◌, ℕ, false, List, [], None, Some, length, map, take, drop, refl, sym, ap, arith}
+use Rattle.postfix_rules.proofs.Words.{◌≡◌, ◌∙◌, ◌<◌, ◌+◌, ◌-◌, ◌∷◌, ℕ, false, List, [], None, Some, length, map, take, drop, refl, sym, ap, arith}
+use Rattle.postfix_rules.proofs.Words.{length-slice_split, count_by, slice_split, is_empty, Part, is_bar, part_of, parts_of, pieces_of}
+use Rattle.postfix_rules.proofs.Words.{without_blank_last, Text, trimmed, without_front, rest-whole, split-cut, split-none}
 use Rattle.std.specs.Prelude.{◌==◌, position}
-use Rattle.std.proofs.lemmas.List.Splits.{length-slice_split}
-use Rattle.std.specs.List.{count_by, slice_split}
-use Rattle.papi_base.specs.Numerals.{is_empty}
-use Rattle.postfix_rules.specs.Faults.{Part}
-use Rattle.postfix_rules.specs.Tokens.{is_bar, part_of, parts_of, pieces_of, without_blank_last}
-use Rattle.table_rows.specs.Texts.{Text, trimmed, without_front}
-use Rattle.table_rows.proofs.Splits.{rest-whole, split-cut, split-none}
 
 abbrev part : Text → Part
 part p = part_of (trimmed p)

@@ -1,8 +1,7 @@
 -- Tokens are a pile of at most one list of trees.
-use Rattle.std.proofs.Common.{◌≡◌, ◌∙◌, ◌∷◌, ◌++◌, List, [], Some, refl, sym, ap, append_assoc, append-nil}
-use Rattle.postfix_rules.specs.declared.token.Token.{Token}
+use Rattle.postfix_rules.proofs.Words.{◌≡◌, ◌∙◌, ◌∷◌, ◌++◌, List, [], Some, refl, sym, ap, append_assoc, append-nil, Token, Tree, Constant, Count}
+use Rattle.postfix_rules.proofs.Words.{Node, pile_from, pile_text, spelling}
 use Rattle.postfix_rules.specs.declared.token.Token.TheVariants as token
-use Rattle.postfix_rules.specs.Trees.{Tree, Constant, Count, Node, pile_from, pile_text, spelling}
 
 -- a tree's tokens put the tree on top
 pub spelling-run : (t : Tree) (pile : List Tree) (rest : List Token) → pile_from pile (spelling t ++ rest) ≡ pile_from (t ∷ pile) rest

@@ -1,15 +1,8 @@
 -- What texts read as, in the words of the definition.
-use Rattle.std.proofs.Common.{◌≡◌, ◌∙◌, ◌+◌, ℕ, List, Option, Some, None, map, refl, sym, ap, subst, arith}
-use Rattle.std.specs.Prelude.{IfErr, IfOk, Result, Ok, Err}
-use Rattle.postfix_rules.specs.declared.fault.FormulaCause.{FormulaCause}
-use Rattle.postfix_rules.specs.declared.fault.FormulaFault.{FormulaFault}
-use Rattle.postfix_rules.specs.declared.fault.FormulaFault.TheVariants.{At}
-use Rattle.postfix_rules.specs.declared.token.Token.{Token}
-use Rattle.postfix_rules.specs.Trees.{spelling}
-use Rattle.postfix_rules.specs.Faults.{FormulaView, IsFault, IsFormula, Part, fault_from}
-use Rattle.postfix_rules.specs.Tokens.{parts_of}
-use Rattle.table_rows.specs.Texts.{Text}
-use Rattle.postfix_rules.specs.Reading.{FirstFaults, FromOne, IsTextFault, IsTreeText, ReadsFormula, RefusedFormula, SameTokens, formula_of, tokens_among, unless_fault}
+use Rattle.postfix_rules.proofs.Words.{◌≡◌, ◌∙◌, ◌+◌, ℕ, List, Option, Some, None, map, refl, sym, ap, subst, arith, IfErr, IfOk, Result, Ok, Err}
+use Rattle.postfix_rules.proofs.Words.{FormulaCause, FormulaFault, At, Token, spelling, FormulaView, IsFault, IsFormula, Part, fault_from, parts_of}
+use Rattle.postfix_rules.proofs.Words.{Text, FirstFaults, FromOne, IsTextFault, IsTreeText, ReadsFormula, RefusedFormula, SameTokens, formula_of}
+use Rattle.postfix_rules.proofs.Words.{tokens_among, unless_fault}
 use Rattle.postfix_rules.proofs.Spelled.{formulas_spell}
 use Rattle.postfix_rules.proofs.Faults.{Says, among-some, faults-found, found-faults}
 

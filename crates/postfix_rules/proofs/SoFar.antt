@@ -1,13 +1,7 @@
 -- Reading a text, token by token.
-use Rattle.std.proofs.Common.{◌≡◌, ◌∙◌, ◌+◌, ◌≤◌, ◌∷◌, ◌++◌, ℕ, List, [], Some, None, length, map, refl, sym, ap, append_assoc, append-nil}
-use Rattle.std.specs.Prelude.{Ok, Err}
-use Rattle.std.proofs.lemmas.List.{length-append, map-append}
-use Rattle.postfix_rules.specs.declared.fault.FormulaCause.{FormulaCause}
-use Rattle.postfix_rules.specs.declared.token.Token.{Token}
-use Rattle.postfix_rules.specs.Faults.{IsFormula, Part, end_cause, fault_from, height_after, token_cause}
-use Rattle.postfix_rules.specs.Tokens.{parts_of}
-use Rattle.table_rows.specs.Texts.{Text}
-use Rattle.postfix_rules.specs.Reading.{formula_of, unless_fault}
+use Rattle.postfix_rules.proofs.Words.{◌≡◌, ◌∙◌, ◌+◌, ◌≤◌, ◌∷◌, ◌++◌, ℕ, List, [], Some, None, length, map, refl, sym, ap, append_assoc, append-nil}
+use Rattle.postfix_rules.proofs.Words.{Ok, Err, length-append, map-append, FormulaCause, Token, IsFormula, Part, end_cause, fault_from, height_after}
+use Rattle.postfix_rules.proofs.Words.{token_cause, parts_of, Text, formula_of, unless_fault}
 use Rattle.postfix_rules.proofs.Refusals.{reads-tokens}
 use Rattle.postfix_rules.proofs.Spelled.{few-after}
 

@@ -1,17 +1,10 @@
 -- Tokens without a fault spell one tree.
-use Rattle.std.proofs.Common.{◌≡◌, ◌∙◌, ◌+◌, ◌-◌, ◌<◌, ◌≤◌, ◌^◌, ◌∷◌, ℕ, Bool, true, false, List, [], Option, Some, None, length, map, refl, sym, arith, tests, nat_lt, nat_le}
-use Rattle.std.proofs.lemmas.Bool.{ltb-true}
-use Rattle.std.specs.Prelude.{if◌then◌else◌}
-use Rattle.std.specs.Option.{option_map_or}
-use Rattle.papi_base.proofs.Steps.{passed_over}
-use Rattle.postfix_rules.specs.declared.fault.FormulaCause.{FormulaCause}
+use Rattle.postfix_rules.proofs.Words.{◌≡◌, ◌∙◌, ◌+◌, ◌-◌, ◌<◌, ◌≤◌, ◌^◌, ◌∷◌, ℕ, Bool, true, false, List, [], Option, Some, None, length, map, refl}
+use Rattle.postfix_rules.proofs.Words.{sym, arith, tests, nat_lt, nat_le, ltb-true, if◌then◌else◌, option_map_or, passed_over, FormulaCause, Operator}
+use Rattle.postfix_rules.proofs.Words.{Token, Tree, Constant, Count, Node, pile_from, Part, end_cause, fault_from, height_after, operand_cause}
+use Rattle.postfix_rules.proofs.Words.{token_cause, FormulasSpell}
 use Rattle.postfix_rules.specs.declared.fault.FormulaCause.TheVariants as cause
-use Rattle.postfix_rules.specs.declared.token.Operator.{Operator}
-use Rattle.postfix_rules.specs.declared.token.Token.{Token}
 use Rattle.postfix_rules.specs.declared.token.Token.TheVariants as token
-use Rattle.postfix_rules.specs.Trees.{Tree, Constant, Count, Node, pile_from}
-use Rattle.postfix_rules.specs.Faults.{Part, end_cause, fault_from, height_after, operand_cause, token_cause}
-use Rattle.postfix_rules.specs.Laws.{FormulasSpell}
 use Rattle.postfix_rules.proofs.Piles.{one-made}
 
 -- a test passes if the cause is what is left of it

@@ -1,14 +1,9 @@
 -- The stack as a list, and what a token without a cause keeps.
-use Rattle.std.proofs.Common.{◌≡◌, ◌∙◌, ◌+◌, ◌-◌, ◌<◌, ◌≤◌, ◌∷◌, ◌++◌, ℕ, List, [], Some, None, ℤ, length, drop, take, reverse, map, get_or, refl, sym, ap, arith, append_assoc, append-nil}
-use Rattle.std.proofs.Math.ListN.{set}
-use Rattle.std.proofs.lemmas.List.{drop_more, drop_all, take_more, take_more_set, reverse-append}
-use Rattle.postfix_rules.specs.declared.token.Operator.{Operator}
-use Rattle.postfix_rules.specs.declared.token.Token.{Token}
+use Rattle.postfix_rules.proofs.Words.{◌≡◌, ◌∙◌, ◌+◌, ◌-◌, ◌<◌, ◌≤◌, ◌∷◌, ◌++◌, ℕ, List, [], Some, None, ℤ, length, drop, take, reverse, map, get_or}
+use Rattle.postfix_rules.proofs.Words.{refl, sym, ap, arith, append_assoc, append-nil, set, drop_more, drop_all, take_more, take_more_set}
+use Rattle.postfix_rules.proofs.Words.{reverse-append, Operator, Token, Tree, Node, spelling, fault_from, height_after, token_cause, applied}
+use Rattle.postfix_rules.proofs.Words.{formula_value, tree_value, pile, stack_from, stepped}
 use Rattle.postfix_rules.specs.declared.token.Token.TheVariants as token
-use Rattle.postfix_rules.specs.Trees.{Tree, Node, spelling}
-use Rattle.postfix_rules.specs.Faults.{fault_from, height_after, token_cause}
-use Rattle.postfix_rules.specs.Values.{applied, formula_value, tree_value}
-use Rattle.postfix_rules.specs.Stack.{pile, stack_from, stepped}
 use Rattle.postfix_rules.proofs.Piles.{one-made}
 use Rattle.postfix_rules.proofs.Spelled.{clear-first, end-one, few-after, one-spelled}
 

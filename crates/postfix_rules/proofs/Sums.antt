@@ -1,9 +1,7 @@
 -- Sums that wrap at each step.
-use Rattle.std.proofs.Common.{◌≡◌, ◌∙◌, ◌+◌, ◌<◌, ◌≤◌, ◌∷◌, [], ℕ, List, ℤ, pos, ◌+ℤ◌, FitsSigned, w64, length, take, drop, ◌-◌, ◌-ℤ◌, get_or, sym, ap, arith}
-use Rattle.std.proofs.lemmas.Int.{int_wrap-add_left, int_wrap-sub_right, int_wrap_fits, ints}
-use Rattle.std.proofs.lemmas.List.{drop_more, drop_all, take_all}
-use Rattle.postfix_rules.specs.Rules.{first_less_others}
-use Rattle.postfix_rules.specs.Values.{signed_sum, wrapped}
+use Rattle.postfix_rules.proofs.Words.{◌≡◌, ◌∙◌, ◌+◌, ◌<◌, ◌≤◌, ◌∷◌, [], ℕ, List, ℤ, pos, ◌+ℤ◌, FitsSigned, w64, length, take, drop, ◌-◌, ◌-ℤ◌}
+use Rattle.postfix_rules.proofs.Words.{get_or, sym, ap, arith, int_wrap-add_left, int_wrap-sub_right, int_wrap_fits, ints, drop_more, drop_all}
+use Rattle.postfix_rules.proofs.Words.{take_all, first_less_others, signed_sum, wrapped}
 
 sum-cons : (x : ℤ) (xs : List ℤ) → signed_sum (x ∷ xs) ≡ x +ℤ signed_sum xs
 unfolding signed_sum

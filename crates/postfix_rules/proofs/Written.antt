@@ -1,21 +1,13 @@
 -- The written text of a formula.
 use Rattle.std.proofs.Common.{◌≡◌, ◌∙◌, ◌+◌, ◌<◌, ◌≤◌, ◌^◌, ◌∷◌, ◌++◌, ℕ, true, false, List, [], length, map, refl, ap, ap₂, arith, tests, nat_eq, nat_le, decimal, Some, None, length-append}
-use Rattle.std.proofs.lemmas.List.Folds.{list_all-append}
-use Rattle.std.specs.Prelude.{⊤}
-use Rattle.std.specs.List.{AllByRecursion, list_all, slice_split}
-use Rattle.std.specs.Str.Parse.{digits_value}
-use Rattle.std.proofs.lemmas.Bool.{and_from, le-leb}
-use Rattle.papi_base.specs.Numerals.{is_numeral}
-use Rattle.postfix_rules.specs.declared.token.Token.{Token}
+use Rattle.postfix_rules.proofs.Words.{list_all-append, ⊤, AllByRecursion, list_all, slice_split, digits_value, and_from, le-leb, is_numeral, Token}
+use Rattle.postfix_rules.proofs.Words.{Part, end_cause, fault_from, height_after, token_cause, formula_text, is_bar, is_formula_byte, part_of}
+use Rattle.postfix_rules.proofs.Words.{parts_of, pieces_of, token_text, without_blank_last, Text, is_blank, trimmed, without_front, WrittenBytes}
+use Rattle.postfix_rules.proofs.Words.{WrittenRead, Digits, all-map, decimal-digits, decimal-numeral, decimal-value, trimmed-plain}
 use Rattle.postfix_rules.specs.declared.token.Operator.TheVariants as op
 use Rattle.postfix_rules.specs.declared.token.Token.TheVariants as token
-use Rattle.postfix_rules.specs.Faults.{Part, end_cause, fault_from, height_after, token_cause}
-use Rattle.postfix_rules.specs.Tokens.{formula_text, is_bar, is_formula_byte, part_of, parts_of, pieces_of, token_text, without_blank_last}
-use Rattle.table_rows.specs.Texts.{Text, is_blank, trimmed, without_front}
-use Rattle.postfix_rules.specs.Reading.{WrittenBytes, WrittenRead}
 use Rattle.postfix_rules.proofs.Refusals.{reads-tokens}
 use Rattle.postfix_rules.proofs.Spelled.{clear-first, constant-ok, native-ok}
-use Rattle.table_rows.proofs.Texts.{Digits, all-map, decimal-digits, decimal-numeral, decimal-value, trimmed-plain}
 
 -- ---- one token
 

@@ -1,29 +1,15 @@
 -- A written table reads back.
-use Rattle.std.proofs.Common.{◌≡◌, ◌∙◌, ◌∷◌, ◌++◌, true, false, List, [], length, map, fold, refl, sym, ap, ap₂, arith, append-nil, codes, None, Ok}
-use Rattle.std.specs.Prelude.{if◌then◌else◌, is_some}
-use Rattle.std.specs.List.{AllByRecursion}
-use Rattle.std.specs.Str.{bytes_eq}
-use Rattle.table_rows.specs.Rows.{IsPlainRow}
-use Rattle.table_rows.specs.Tables.{NoTwo}
-use Rattle.table_rows.specs.Texts.{Text}
-use Rattle.table_rows.proofs.RowsBack.{rows-back}
-use Rattle.table_rows.proofs.Texts.{all-map}
-use Rattle.preset_csv.specs.Symbols.{preset_rows, row_of}
-use Rattle.preset_csv.specs.Defs.{DefView, IsDef}
-use Rattle.preset_csv.specs.Entries.{InfixJudging, judged, judged_by, uncomputed}
-use Rattle.preset_csv.specs.Lines.{Derivation, Line, cpu, event, gives, Word, line_of, lines_of, preset}
-use Rattle.table_rows.specs.Tables.{first_fault}
-use Rattle.preset_csv.specs.Presets.{Judging, cuts_off, entry_of, entry_or, group, has_cpu, holds, line_cause, preset_read, presets, read_from}
-use Rattle.preset_csv.specs.Tables.{IsEntry, TableView, symbols}
-use Rattle.preset_csv.specs.Written.{rows_of_entries, table_text}
-use Rattle.preset_csv.specs.declared.entry.Entry.{Entry}
+use Rattle.preset_csv.proofs.Words.{◌≡◌, ◌∙◌, ◌∷◌, ◌++◌, true, false, List, [], length, map, fold, refl, sym, ap, ap₂, arith, append-nil, codes, None}
+use Rattle.preset_csv.proofs.Words.{Ok, if◌then◌else◌, is_some, AllByRecursion, bytes_eq, IsPlainRow, NoTwo, Text, rows-back, all-map, preset_rows}
+use Rattle.preset_csv.proofs.Words.{row_of, DefView, IsDef, InfixJudging, judged, judged_by, uncomputed, Derivation, Line, cpu, event, gives, Word}
+use Rattle.preset_csv.proofs.Words.{line_of, lines_of, preset, first_fault, Judging, cuts_off, entry_of, entry_or, group, has_cpu, holds, line_cause}
+use Rattle.preset_csv.proofs.Words.{preset_read, presets, read_from, IsEntry, TableView, symbols, rows_of_entries, table_text, Entry, PRESETS}
 use Rattle.preset_csv.specs.declared.entry.Entry.TheVariants as entry
 use Rattle.preset_csv.proofs.Fields.{IsGood, symbols-good, word-good}
 use Rattle.preset_csv.proofs.Groups.{has_cpu-more, names-more}
 use Rattle.preset_csv.proofs.RowBack.{cpu-line, def-good, def-judged, def-line, row_fields, def_row, good-plain, rest-good, rest-judged, rest-line, rest_fields, rest_row}
 use Rattle.preset_csv.proofs.SymbolRows.{all-test, same-text, symbols-apart, turned}
 use Rattle.preset_csv.proofs.WrittenParts.{length-symbols}
-use Rattle.preset_csv.specs.declared.symbols.TheConstants.{PRESETS}
 
 -- the rows of some symbols and their entries, as they read back
 unfoldable pub rows_back : List Text → List Entry → List Derivation

@@ -1,24 +1,13 @@
 -- A written table reads back also if the cpu's name can stand in no field: then no row is written, and none is read.
-use Rattle.std.proofs.Common.{◌≡◌, ◌∙◌, ◌+◌, ◌∷◌, ◌++◌, ℕ, suc, Bool, true, false, List, [], Option, Some, None, length, map, refl, sym, ap, ap₂, subst, arith, codes}
+use Rattle.preset_csv.proofs.Words.{◌≡◌, ◌∙◌, ◌+◌, ◌∷◌, ◌++◌, ℕ, suc, Bool, true, false, List, [], Option, Some, None, length, map, refl, sym, ap}
+use Rattle.preset_csv.proofs.Words.{ap₂, subst, arith, codes, AllByRecursion, Read, after_end, ends_with, field_after, fields_after, in_field, is_end}
+use Rattle.preset_csv.proofs.Words.{next_record, records_from, records_next, strip_bom, Action, State, IsReadRow, rows_of, rows_text, table_config}
+use Rattle.preset_csv.proofs.Words.{Text, text_at, all-append, Line, cpu, event, gives, line_of, lines_of, other, preset, first_fault, judged}
+use Rattle.preset_csv.proofs.Words.{Judging, has_cpu, holds, line_cause, preset_fault, presets, presets_in, IsMissing, IsTable, TableView, is_field}
+use Rattle.preset_csv.proofs.Words.{symbols, ReadsBack, rows_of_entries, table_text, Entry, PresetCause}
 use Rattle.std.specs.Prelude.{⊤, ◌==◌, if◌then◌else◌}
-use Rattle.std.specs.List.{AllByRecursion}
-use Rattle.csv.specs.Machine.{Read, after_end, ends_with, field_after, fields_after, in_field, is_end, next_record}
-use Rattle.csv.specs.Reading.{records_from, records_next, strip_bom}
-use Rattle.csv.specs.declared.parser.Action.{Action}
 use Rattle.csv.specs.declared.parser.Action.TheVariants as act
-use Rattle.csv.specs.declared.parser.State.{State}
 use Rattle.csv.specs.declared.parser.State.TheVariants as st
-use Rattle.table_rows.specs.Rows.{IsReadRow, rows_of, rows_text, table_config}
-use Rattle.table_rows.specs.Texts.{Text, text_at}
-use Rattle.table_rows.proofs.Texts.{all-append}
-use Rattle.preset_csv.specs.Lines.{Line, cpu, event, gives, line_of, lines_of, other, preset}
-use Rattle.table_rows.specs.Tables.{first_fault}
-use Rattle.preset_csv.specs.Entries.{judged}
-use Rattle.preset_csv.specs.Presets.{Judging, has_cpu, holds, line_cause, preset_fault, presets, presets_in}
-use Rattle.preset_csv.specs.Tables.{IsMissing, IsTable, TableView, is_field, symbols}
-use Rattle.preset_csv.specs.Written.{ReadsBack, rows_of_entries, table_text}
-use Rattle.preset_csv.specs.declared.entry.Entry.{Entry}
-use Rattle.preset_csv.specs.declared.fault.PresetCause.{PresetCause}
 use Rattle.preset_csv.proofs.Back.{fault-of-written, presets-of-written}
 use Rattle.preset_csv.proofs.Fields.{field-good}
 use Rattle.preset_csv.proofs.Groups.{has_cpu-more}

@@ -1,24 +1,9 @@
 -- The fields of written rows: none of their bytes ends a field or a row, and they have no blanks at their ends.
-use Rattle.std.proofs.Common.{◌≡◌, ◌≤◌, ◌<◌, ◌^◌, ◌==◌, ◌∷◌, ℕ, Bool, true, false, not, List, [], map, refl, ap₂, subst, sym, arith, tests, nat_le, codes}
-use Rattle.std.specs.Prelude.{◌&&◌, ◌||◌}
-use Rattle.std.specs.Str.{bytes_eq}
-use Rattle.std.specs.List.{AllByRecursion, list_all, list_any, onto_first, slice_split}
-use Rattle.std.proofs.lemmas.Bool.{and_parts, cond_both, eqb-true, not-true}
-use Rattle.std.proofs.lemmas.Slice.Eq.{bytes_eq-Decides}
-use Rattle.table_rows.specs.Rows.{IsInner, IsPlainField}
-use Rattle.table_rows.specs.Texts.{Text, is_blank, is_printable, trimmed}
-use Rattle.table_rows.proofs.Texts.{all-map, trimmed-plain}
-use Rattle.papi_base.specs.Numerals.{is_digit}
-use Rattle.postfix_rules.specs.Faults.{FormulaView, IsFormula}
-use Rattle.postfix_rules.specs.Tokens.{formula_text, is_formula_byte}
-use Rattle.postfix_rules.proofs.Written.{written_bytes}
-use Rattle.preset_csv.specs.Symbols.{preset_rows}
-use Rattle.preset_csv.specs.Defs.{IsNativeText}
-use Rattle.preset_csv.specs.Entries.{has_rate}
-use Rattle.preset_csv.specs.Kinds.{kind_text}
-use Rattle.preset_csv.specs.Lines.{natives_in}
-use Rattle.preset_csv.specs.Tables.{is_field, is_field_byte, symbols}
-use Rattle.preset_csv.specs.declared.kind.Kind.{Kind}
+use Rattle.preset_csv.proofs.Words.{◌≡◌, ◌≤◌, ◌<◌, ◌^◌, ◌==◌, ◌∷◌, ℕ, Bool, true, false, not, List, [], map, refl, ap₂, subst, sym, arith, tests}
+use Rattle.preset_csv.proofs.Words.{nat_le, codes, ◌&&◌, ◌||◌, bytes_eq, AllByRecursion, list_all, list_any, onto_first, slice_split, and_parts}
+use Rattle.preset_csv.proofs.Words.{cond_both, eqb-true, not-true, bytes_eq-Decides, IsInner, IsPlainField, Text, is_blank, is_printable, trimmed}
+use Rattle.preset_csv.proofs.Words.{all-map, trimmed-plain, is_digit, FormulaView, IsFormula, formula_text, is_formula_byte, written_bytes}
+use Rattle.preset_csv.proofs.Words.{preset_rows, IsNativeText, has_rate, kind_text, natives_in, is_field, is_field_byte, symbols, Kind}
 use Rattle.preset_csv.specs.declared.kind.Kind.TheVariants as kind
 use Rattle.preset_csv.proofs.SymbolRows.{all-test, test-all}
 

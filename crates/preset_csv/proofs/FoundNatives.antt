@@ -1,16 +1,8 @@
 -- The natives of a row, field by field.
-use Rattle.std.proofs.Common.{◌≡◌, ◌∙◌, ◌+◌, ◌<◌, ◌≤◌, ◌∷◌, ◌++◌, ℕ, zero, suc, true, false, List, [], Ok, Err, map, drop, take}
-use Rattle.std.proofs.Common.{length, get_or, refl, sym, ap, arith, append_assoc, append-nil, lt-ltb, le-ltb}
-use Rattle.std.specs.List.{list_all}
-use Rattle.std.proofs.lemmas.Bool.{and_from}
-use Rattle.std.proofs.lemmas.List.{drop_all, drop_more, length-append, take_all}
-use Rattle.std.proofs.lemmas.List.Folds.{list_all-append}
-use Rattle.std.proofs.lemmas.Option.{slice_get-get_or}
-use Rattle.table_rows.specs.Texts.{Text, is_printable, text_at, trimmed}
-use Rattle.postfix_rules.specs.declared.derived.TheConstants.{MOST_NATIVES}
-use Rattle.preset_csv.specs.Defs.{ends_natives}
-use Rattle.preset_csv.specs.Entries.{kept_natives}
-use Rattle.preset_csv.specs.Lines.{natives_from, natives_in}
+use Rattle.preset_csv.proofs.Words.{◌≡◌, ◌∙◌, ◌+◌, ◌<◌, ◌≤◌, ◌∷◌, ◌++◌, ℕ, zero, suc, true, false, List, [], Ok, Err, map, drop, take, length, get_or}
+use Rattle.preset_csv.proofs.Words.{refl, sym, ap, arith, append_assoc, append-nil, lt-ltb, le-ltb, list_all, and_from, drop_all, drop_more}
+use Rattle.preset_csv.proofs.Words.{length-append, take_all, list_all-append, slice_get-get_or, Text, is_printable, text_at, trimmed, MOST_NATIVES}
+use Rattle.preset_csv.proofs.Words.{ends_natives, kept_natives, natives_from, natives_in}
 use Rattle.preset_csv.specs.declared.fault.PresetCause.TheVariants as cause
 
 pub text-here : (fields : List Text) (i : ℕ) → i < length fields → text_at fields i ≡ trimmed (get_or fields i [])

@@ -1,12 +1,6 @@
 -- The group of some rows and of one more.
 use Rattle.std.proofs.Common.{◌≡◌, ◌∙◌, ◌∷◌, ◌++◌, ◌||◌, Bool, true, false, List, [], refl}
-use Rattle.std.specs.Prelude.{if◌then◌else◌}
-use Rattle.std.proofs.lemmas.Bool.{cond_both, or_right}
-use Rattle.table_rows.specs.Texts.{Text}
-use Rattle.table_rows.proofs.Texts.{or-false}
-use Rattle.preset_csv.specs.Lines.{Line, other, cpu, gives}
-use Rattle.preset_csv.specs.Presets.{cuts_off, group, has_cpu}
-use Rattle.preset_csv.specs.Steps.{is_closed}
+use Rattle.preset_csv.proofs.Words.{if◌then◌else◌, cond_both, or_right, Text, or-false, Line, other, cpu, gives, cuts_off, group, has_cpu, is_closed}
 
 abbrev pub is_cpu : Line → Bool
 is_cpu (cpu n) = true

@@ -1,24 +1,12 @@
 -- What the entry of a row keeps.
-use Rattle.std.proofs.Common.{◌≡◌, ◌≤◌, ◌==◌, ◌∷◌, ℕ, false, List, [], length, refl, sym, subst, arith, IfOk, Option, Some, None, Result, Ok, Err}
-use Rattle.std.specs.Prelude.{⊤}
-use Rattle.std.specs.List.{AllByRecursion}
-use Rattle.std.proofs.lemmas.Bool.{cond_both, eqb-true}
-use Rattle.table_rows.specs.Texts.{Text, is_empty, is_printable}
-use Rattle.postfix_rules.specs.declared.derived.TheConstants.{MOST_NATIVES}
-use Rattle.postfix_rules.specs.Faults.{FormulaView, IsFormula}
-use Rattle.postfix_rules.specs.Reading.{RefusedFormula, formula_of}
-use Rattle.postfix_rules.proofs.Refusals.{same_tokens}
-use Rattle.preset_csv.specs.Defs.{AreNatives, FitsKind, IsDef, IsNativeText}
-use Rattle.preset_csv.specs.Entries.{InfixJudging, def_entry, formula_entry, has_rate, judged_as, judged_by, kept_entry, kept_natives, typed_entry}
-use Rattle.preset_csv.specs.Lines.{Derivation}
-use Rattle.preset_csv.specs.Tables.{IsEntry}
-use Rattle.preset_csv.specs.declared.entry.Entry.{Entry}
+use Rattle.preset_csv.proofs.Words.{◌≡◌, ◌≤◌, ◌==◌, ◌∷◌, ℕ, false, List, [], length, refl, sym, subst, arith, IfOk, Option, Some, None, Result, Ok}
+use Rattle.preset_csv.proofs.Words.{Err, ⊤, AllByRecursion, cond_both, eqb-true, Text, is_empty, is_printable, MOST_NATIVES, FormulaView, IsFormula}
+use Rattle.preset_csv.proofs.Words.{RefusedFormula, formula_of, same_tokens, AreNatives, FitsKind, IsDef, IsNativeText, InfixJudging, def_entry}
+use Rattle.preset_csv.proofs.Words.{formula_entry, has_rate, judged_as, judged_by, kept_entry, kept_natives, typed_entry, Derivation, IsEntry, Entry}
+use Rattle.preset_csv.proofs.Words.{PresetCause, Kind, DerivedType}
 use Rattle.preset_csv.specs.declared.entry.Entry.TheVariants as entry
-use Rattle.preset_csv.specs.declared.fault.PresetCause.{PresetCause}
 use Rattle.preset_csv.specs.declared.fault.PresetCause.TheVariants as cause
-use Rattle.preset_csv.specs.declared.kind.Kind.{Kind}
 use Rattle.preset_csv.specs.declared.kind.Kind.TheVariants as kind
-use Rattle.preset_csv.specs.declared.kind.DerivedType.{DerivedType}
 use Rattle.preset_csv.specs.declared.kind.DerivedType.TheVariants as derived
 use Rattle.preset_csv.proofs.NativesKept.{IsNative, kept-is, texts-kept}
 

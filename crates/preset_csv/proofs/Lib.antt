@@ -12,3 +12,4 @@ pub mod RowBack
 pub mod Back
 pub mod BackWhole
 pub mod WrittenParts
+pub mod Words

@@ -1,16 +1,8 @@
 -- What the natives of a row keep, and its symbol.
-use Rattle.std.proofs.Common.{◌≡◌, ◌≤◌, ◌==◌, ◌∷◌, ℕ, zero, suc, Bool, true, false, not, List, [], map, drop, length, refl, subst, nat_lt, Result, Ok, Err}
-use Rattle.std.specs.Prelude.{if◌then◌else◌}
-use Rattle.std.specs.List.{AllByRecursion, list_all}
-use Rattle.std.proofs.lemmas.Bool.{and_parts, cond_both, ltb-false}
-use Rattle.table_rows.specs.Rows.{IsInner, IsPlainField, IsReadRow}
-use Rattle.table_rows.specs.Texts.{Text, is_printable, text_at, trimmed}
-use Rattle.table_rows.proofs.Texts.{trimmed-all, trimmed-once}
-use Rattle.postfix_rules.specs.declared.derived.TheConstants.{MOST_NATIVES}
-use Rattle.preset_csv.specs.Defs.{IsNativeText, ends_natives}
-use Rattle.preset_csv.specs.Entries.{kept_natives}
-use Rattle.preset_csv.specs.Lines.{derivation_of, natives_from, natives_in}
-use Rattle.preset_csv.specs.declared.fault.PresetCause.{PresetCause}
+use Rattle.preset_csv.proofs.Words.{◌≡◌, ◌≤◌, ◌==◌, ◌∷◌, ℕ, zero, suc, Bool, true, false, not, List, [], map, drop, length, refl, subst, nat_lt}
+use Rattle.preset_csv.proofs.Words.{Result, Ok, Err, if◌then◌else◌, AllByRecursion, list_all, and_parts, cond_both, ltb-false, IsInner, IsPlainField}
+use Rattle.preset_csv.proofs.Words.{IsReadRow, Text, is_printable, text_at, trimmed, trimmed-all, trimmed-once, MOST_NATIVES, IsNativeText}
+use Rattle.preset_csv.proofs.Words.{ends_natives, kept_natives, derivation_of, natives_from, natives_in, PresetCause}
 use Rattle.preset_csv.specs.declared.fault.PresetCause.TheVariants as cause
 
 -- what a field keeps once it is trimmed

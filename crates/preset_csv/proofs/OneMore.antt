@@ -1,22 +1,10 @@
 -- The group, the entries and the cause of some rows and of one more.
-use Rattle.std.proofs.Common.{◌≡◌, ◌∙◌, ◌∷◌, ◌++◌, ℕ, Bool, true, false, not, List, [], map, refl, sym, ap, ap₂, append_assoc, append-nil, Option, Some, None, Result, Ok, Err}
-use Rattle.std.specs.Prelude.{◌&&◌, ◌||◌, is_some, if◌then◌else◌}
-use Rattle.std.specs.List.{list_any}
-use Rattle.std.specs.Str.{bytes_eq}
-use Rattle.std.proofs.lemmas.List.Folds.{list_any-append}
-use Rattle.std.proofs.lemmas.List.Sums.{fold-append}
-use Rattle.std.proofs.lemmas.Bool.{or_right}
-use Rattle.table_rows.specs.Texts.{Text}
-use Rattle.preset_csv.specs.Symbols.{row_of}
-use Rattle.preset_csv.specs.Lines.{Derivation, Line, cpu, gives, other, preset}
-use Rattle.preset_csv.specs.Presets.{Judging, entry_of, entry_or, group, has_cpu, holds, line_cause, preset_read, presets, presets_read, read_from, rows_if}
-use Rattle.preset_csv.specs.Steps.{cause_more, entries_more, entries_with, group_at, group_more, is_closed, placed}
-use Rattle.preset_csv.specs.Tables.{symbols}
-use Rattle.preset_csv.specs.declared.entry.Entry.{Entry}
-use Rattle.preset_csv.specs.declared.fault.PresetCause.{PresetCause}
-use Rattle.preset_csv.specs.declared.group.Group.{Group}
+use Rattle.preset_csv.proofs.Words.{◌≡◌, ◌∙◌, ◌∷◌, ◌++◌, ℕ, Bool, true, false, not, List, [], map, refl, sym, ap, ap₂, append_assoc, append-nil}
+use Rattle.preset_csv.proofs.Words.{Option, Some, None, Result, Ok, Err, ◌&&◌, ◌||◌, is_some, if◌then◌else◌, list_any, bytes_eq, list_any-append}
+use Rattle.preset_csv.proofs.Words.{fold-append, or_right, Text, row_of, Derivation, Line, cpu, gives, other, preset, Judging, entry_of, entry_or}
+use Rattle.preset_csv.proofs.Words.{group, has_cpu, holds, line_cause, preset_read, presets, presets_read, read_from, rows_if, cause_more}
+use Rattle.preset_csv.proofs.Words.{entries_more, entries_with, group_at, group_more, is_closed, placed, symbols, Entry, PresetCause, Group, or-false}
 use Rattle.preset_csv.proofs.Groups.{closed-more, has_cpu-more, names-more}
-use Rattle.table_rows.proofs.Texts.{or-false}
 use Rattle.preset_csv.proofs.SymbolRows.{changed-at, set_at}
 
 -- ---- the group

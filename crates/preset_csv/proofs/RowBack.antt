@@ -1,24 +1,12 @@
 -- A written row reads back as its entry.
-use Rattle.std.proofs.Common.{◌≡◌, ◌∙◌, ◌≤◌, ◌<◌, ◌^◌, ◌∷◌, ◌++◌, ℕ, false, List, [], length, map, refl, ap, subst, arith, nat_lt, codes, Option, Some, None, Ok}
-use Rattle.std.specs.List.{AllByRecursion}
+use Rattle.preset_csv.proofs.Words.{◌≡◌, ◌∙◌, ◌≤◌, ◌<◌, ◌^◌, ◌∷◌, ◌++◌, ℕ, false, List, [], length, map, refl, ap, subst, arith, nat_lt, codes}
+use Rattle.preset_csv.proofs.Words.{Option, Some, None, Ok, AllByRecursion, BeginsPlain, IsPlainField, IsPlainRow, Text, is_empty, text_at, trimmed}
+use Rattle.preset_csv.proofs.Words.{all-map, MOST_NATIVES, FormulaView, formula_of, formula_text, written_read, DefView, FitsKind, IsDef}
+use Rattle.preset_csv.proofs.Words.{IsNativeText, InfixJudging, judged_by, kind_text, type_of, Derivation, cpu, derivation, derivation_of, line_of}
+use Rattle.preset_csv.proofs.Words.{gives, natives_in, preset, formula_fields, Kind, DerivedType}
 use Rattle.std.proofs.lemmas.Bool.{le-ltb, eq-eqb}
-use Rattle.table_rows.specs.Rows.{BeginsPlain, IsPlainField, IsPlainRow}
-use Rattle.table_rows.specs.Texts.{Text, is_empty, text_at, trimmed}
-use Rattle.table_rows.proofs.Texts.{all-map}
-use Rattle.postfix_rules.specs.declared.derived.TheConstants.{MOST_NATIVES}
-use Rattle.postfix_rules.specs.Faults.{FormulaView}
-use Rattle.postfix_rules.specs.Reading.{formula_of}
-use Rattle.postfix_rules.specs.Tokens.{formula_text}
-use Rattle.postfix_rules.proofs.Written.{written_read}
-use Rattle.preset_csv.specs.Defs.{DefView, FitsKind, IsDef, IsNativeText}
-use Rattle.preset_csv.specs.Entries.{InfixJudging, judged_by}
-use Rattle.preset_csv.specs.Kinds.{kind_text, type_of}
-use Rattle.preset_csv.specs.Lines.{Derivation, cpu, derivation, derivation_of, line_of, gives, natives_in, preset}
-use Rattle.preset_csv.specs.Written.{formula_fields}
 use Rattle.preset_csv.specs.declared.entry.Entry.TheVariants as entry
-use Rattle.preset_csv.specs.declared.kind.Kind.{Kind}
 use Rattle.preset_csv.specs.declared.kind.Kind.TheVariants as kind
-use Rattle.preset_csv.specs.declared.kind.DerivedType.{DerivedType}
 use Rattle.preset_csv.specs.declared.kind.DerivedType.TheVariants as derived
 use Rattle.preset_csv.proofs.Fields.{IsGood, formula-ink, ink-good, ink-printed, kind-good, natives-back, natives-good, natives-printed, no-rate, trims, word-good}
 

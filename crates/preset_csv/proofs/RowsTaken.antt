@@ -1,24 +1,13 @@
 -- What one row derives is taken, or the row refused; and the group and the entries of some rows and of one row more.
-use Rattle.std.proofs.Common.{◌≡◌, ◌∙◌, ◌∷◌, ◌++◌, ℕ, List, [], Some, None, true, false, Bool, set, replicate, refl, sym, ap, Ok, Err}
+use Rattle.preset_csv.proofs.Words.{◌≡◌, ◌∙◌, ◌∷◌, ◌++◌, ℕ, List, [], Some, None, true, false, Bool, set, replicate, refl, sym, ap, Ok, Err}
+use Rattle.preset_csv.proofs.Words.{RefusesRow, TakesRow, Text, text_at, RowRefusal, takes-as, preset_rows, row_of, Line, derivation_of, Judging}
+use Rattle.preset_csv.proofs.Words.{entry_of, group, has_cpu, line_cause, presets, read_from, GivePresets, IsMore, Judges, cause_more, entries_more}
+use Rattle.preset_csv.proofs.Words.{entries_with, group_at, group_more, is_closed, read_cause, symbols, Entry, PresetCause, Group, PRESETS}
 use Rattle.std.specs.Prelude.{Result}
-use Rattle.table_rows.specs.Tables.{RefusesRow, TakesRow}
-use Rattle.table_rows.specs.Texts.{Text, text_at}
-use Rattle.table_rows.specs.declared.fault.RowRefusal.{RowRefusal}
 use Rattle.table_rows.specs.declared.fault.RowRefusal.TheVariants as refusal
-use Rattle.table_rows.proofs.TablesRead.{takes-as}
-use Rattle.preset_csv.specs.Symbols.{preset_rows, row_of}
-use Rattle.preset_csv.specs.Lines.{Line, derivation_of}
-use Rattle.preset_csv.specs.Presets.{Judging, entry_of, group, has_cpu, line_cause, presets, read_from}
-use Rattle.preset_csv.specs.Reading.{GivePresets}
-use Rattle.preset_csv.specs.Steps.{IsMore, Judges, cause_more, entries_more, entries_with, group_at, group_more, is_closed, read_cause}
-use Rattle.preset_csv.specs.Tables.{symbols}
-use Rattle.preset_csv.specs.declared.entry.Entry.{Entry}
 use Rattle.preset_csv.specs.declared.entry.Entry.TheVariants as entry
-use Rattle.preset_csv.specs.declared.fault.PresetCause.{PresetCause}
-use Rattle.preset_csv.specs.declared.group.Group.{Group}
 use Rattle.preset_csv.proofs.NativesKept.{symbol-there}
 use Rattle.preset_csv.proofs.OneMore.{cause-one-more, entries-one-more, group-one-more}
-use Rattle.preset_csv.specs.declared.symbols.TheConstants.{PRESETS}
 
 -- ---- what one row derives
 

@@ -1,12 +1,7 @@
 -- The row of a symbol: the first row that has it.
-use Rattle.std.proofs.Common.{rules, ◌≡◌, ◌<◌, ◌+◌, ℕ, Bool, true, false, List, [], None, Some, length, get_or, refl, arith}
-use Rattle.std.proofs.lemmas.Bool.{ltb-true, ltb-false}
-use Rattle.std.proofs.lemmas.List.Sums.{position_or_len_is}
-use Rattle.std.proofs.lemmas.Option.{slice_get-get_or}
+use Rattle.preset_csv.proofs.Words.{rules, ◌≡◌, ◌<◌, ◌+◌, ℕ, Bool, true, false, List, [], None, Some, length, get_or, refl, arith, ltb-true}
+use Rattle.preset_csv.proofs.Words.{ltb-false, position_or_len_is, slice_get-get_or, option_map_or, bytes_eq, PRESETS}
 use Rattle.std.specs.Prelude.{nat_lt, position, slice_get}
-use Rattle.std.specs.Option.{option_map_or}
-use Rattle.std.specs.Str.{bytes_eq}
-use Rattle.preset_csv.specs.declared.symbols.TheConstants.{PRESETS}
 use Rattle.preset_csv.specs.Symbols.{PresetRow, preset, preset_rows}
 
 -- no row before this one has the symbol

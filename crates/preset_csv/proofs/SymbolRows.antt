@@ -1,16 +1,9 @@
 -- The symbols of the preset table, each in its row.
-use Rattle.std.proofs.Common.{◌≡◌, ◌∙◌, ◌+◌, ◌<◌, ◌≤◌, ◌∷◌, ℕ, suc, Bool, true, false, List, [], Option, Some, None, cond, map, set, length, refl, sym, ap, ap₂, subst, arith}
+use Rattle.preset_csv.proofs.Words.{◌≡◌, ◌∙◌, ◌+◌, ◌<◌, ◌≤◌, ◌∷◌, ℕ, suc, Bool, true, false, List, [], Option, Some, None, cond, map, set, length}
+use Rattle.preset_csv.proofs.Words.{refl, sym, ap, ap₂, subst, arith, Decides, AllByRecursion, list_all, position_or_len, bytes_eq, and_from}
+use Rattle.preset_csv.proofs.Words.{and_parts, cond_both, ltb-false, ltb-true, not-true, bytes_eq-Decides, NoTwo, Text, is_printable, all-map}
+use Rattle.preset_csv.proofs.Words.{PresetRow, preset_rows, row_of, symbols}
 use Rattle.std.specs.Prelude.{◌&&◌, not, nat_lt, if◌then◌else◌}
-use Rattle.std.specs.Bool.{Decides}
-use Rattle.std.specs.List.{AllByRecursion, list_all, position_or_len}
-use Rattle.std.specs.Str.{bytes_eq}
-use Rattle.std.proofs.lemmas.Bool.{and_from, and_parts, cond_both, ltb-false, ltb-true, not-true}
-use Rattle.std.proofs.lemmas.Slice.Eq.{bytes_eq-Decides}
-use Rattle.table_rows.specs.Tables.{NoTwo}
-use Rattle.table_rows.specs.Texts.{Text, is_printable}
-use Rattle.table_rows.proofs.Texts.{all-map}
-use Rattle.preset_csv.specs.Symbols.{PresetRow, preset_rows, row_of}
-use Rattle.preset_csv.specs.Tables.{symbols}
 
 -- what a test says of each
 pub all-test : {X : Type 0} (p : X → Bool) (xs : List X) → list_all p xs ≡ true → AllByRecursion (λ x. p x ≡ true) xs

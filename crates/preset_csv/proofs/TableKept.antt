@@ -1,26 +1,15 @@
 -- The presets of any bytes are a table.
-use Rattle.std.proofs.Common.{◌≡◌, ◌∷◌, ◌++◌, ℕ, zero, suc, Bool, true, false, List, [], length, map, drop, fold, refl, subst, codes, Result, Ok, Err}
-use Rattle.std.specs.Prelude.{⊤, if◌then◌else◌, slice_get, unwrap_or}
-use Rattle.std.specs.List.{AllByRecursion, list_all, list_any}
-use Rattle.std.specs.Str.{bytes_eq, str_eq_ignore_ascii_case}
-use Rattle.std.proofs.lemmas.Bool.{and_from, cond_both, false_from_ne_true}
-use Rattle.std.proofs.lemmas.Slice.Eq.{bytes_eq-Decides}
-use Rattle.table_rows.specs.Rows.{IsInner, IsPlainField, IsReadRow, rows_of}
-use Rattle.table_rows.specs.Texts.{Text, text_at, trimmed}
-use Rattle.table_rows.proofs.Texts.{all-append, trimmed-all, trimmed-once}
-use Rattle.preset_csv.specs.Symbols.{preset_rows}
-use Rattle.preset_csv.specs.Kinds.{has_formula, type_of}
-use Rattle.preset_csv.specs.Lines.{Derivation, Line, cpu, derivation_of, gives, line_of, natives_from, natives_in, other, preset}
-use Rattle.preset_csv.specs.Presets.{Judging, cuts_off, entry_of, entry_or, group, holds, is_read, preset_read, presets, presets_read, read_from}
-use Rattle.preset_csv.specs.Tables.{IsEntry, IsMissing, IsTable, is_field, is_field_byte, symbols}
-use Rattle.preset_csv.specs.declared.entry.Entry.{Entry}
+use Rattle.preset_csv.proofs.Words.{◌≡◌, ◌∷◌, ◌++◌, ℕ, zero, suc, Bool, true, false, List, [], length, map, drop, fold, refl, subst, codes, Result}
+use Rattle.preset_csv.proofs.Words.{Ok, Err, ⊤, if◌then◌else◌, slice_get, unwrap_or, AllByRecursion, list_all, list_any, bytes_eq}
+use Rattle.preset_csv.proofs.Words.{str_eq_ignore_ascii_case, and_from, cond_both, false_from_ne_true, bytes_eq-Decides, IsInner, IsPlainField}
+use Rattle.preset_csv.proofs.Words.{IsReadRow, rows_of, Text, text_at, trimmed, all-append, trimmed-all, trimmed-once, preset_rows, has_formula}
+use Rattle.preset_csv.proofs.Words.{type_of, Derivation, Line, cpu, derivation_of, gives, line_of, natives_from, natives_in, other, preset, Judging}
+use Rattle.preset_csv.proofs.Words.{cuts_off, entry_of, entry_or, group, holds, is_read, preset_read, presets, presets_read, read_from, IsEntry}
+use Rattle.preset_csv.proofs.Words.{IsMissing, IsTable, is_field, is_field_byte, symbols, Entry, PresetCause, rows-plain, PRESETS}
 use Rattle.preset_csv.specs.declared.entry.Entry.TheVariants as entry
-use Rattle.preset_csv.specs.declared.fault.PresetCause.{PresetCause}
 use Rattle.preset_csv.proofs.Judged.{Keeps}
 use Rattle.preset_csv.proofs.NativesKept.{IsNative, cut-natives, cut-trimmed, read-drop}
-use Rattle.table_rows.proofs.PlainFields.{rows-plain}
 use Rattle.preset_csv.proofs.SymbolRows.{same-text}
-use Rattle.preset_csv.specs.declared.symbols.TheConstants.{PRESETS}
 
 -- ---- a row by itself
 

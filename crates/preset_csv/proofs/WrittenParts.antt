@@ -1,20 +1,10 @@
 -- The text of rows, piece by piece.
-use Rattle.std.proofs.Common.{◌≡◌, ◌∙◌, ◌+◌, ◌<◌, ◌≤◌, ◌∷◌, ◌++◌, ℕ, zero, suc, List, [], length, map, get_or, drop, take, refl, sym, ap, ap₂, arith, append_assoc, append-nil, codes}
-use Rattle.std.specs.Prelude.{slice_get}
-use Rattle.std.specs.List.{join_with_byte}
-use Rattle.std.specs.Option.{option_map_or}
-use Rattle.std.proofs.lemmas.List.{drop_all, drop_more, map-append, take_more}
-use Rattle.table_rows.specs.Rows.{rows_text}
-use Rattle.table_rows.specs.Texts.{Text}
-use Rattle.preset_csv.specs.Symbols.{PresetRow, preset_rows, symbol_at}
-use Rattle.preset_csv.specs.Defs.{DefView}
-use Rattle.preset_csv.specs.Steps.{after_commas}
-use Rattle.preset_csv.specs.Tables.{TableView, symbols}
-use Rattle.preset_csv.specs.Written.{def_fields, entry_rows, rows_of_entries, rows_of_entry, table_text}
-use Rattle.preset_csv.specs.declared.entry.Entry.{Entry}
+use Rattle.preset_csv.proofs.Words.{◌≡◌, ◌∙◌, ◌+◌, ◌<◌, ◌≤◌, ◌∷◌, ◌++◌, ℕ, zero, suc, List, [], length, map, get_or, drop, take, refl, sym, ap, ap₂}
+use Rattle.preset_csv.proofs.Words.{arith, append_assoc, append-nil, codes, slice_get, join_with_byte, option_map_or, drop_all, drop_more, map-append}
+use Rattle.preset_csv.proofs.Words.{take_more, rows_text, Text, PresetRow, preset_rows, symbol_at, DefView, after_commas, TableView, symbols}
+use Rattle.preset_csv.proofs.Words.{def_fields, entry_rows, rows_of_entries, rows_of_entry, table_text, Entry, PRESETS}
 use Rattle.preset_csv.specs.declared.entry.Entry.TheVariants as entry
 use Rattle.preset_csv.proofs.Searching.{rows_counted}
-use Rattle.preset_csv.specs.declared.symbols.TheConstants.{PRESETS}
 
 -- fields joined by commas
 joined : (x : Text) (rest : List Text) → join_with_byte 44 (x ∷ rest) ≡ x ++ after_commas rest

@@ -1,15 +1,9 @@
 -- The histogram of no program counters, and which buckets a histogram has.
-use Rattle.std.proofs.Common.{◌≡◌, ◌∙◌, ◌∷◌, ℕ, List, [], Option, Some, None, Bool, true, false, map, length, refl, ap, arith}
-use Rattle.std.proofs.lemmas.Bool.{ltb-false, ltb-true}
-use Rattle.std.proofs.lemmas.List.{get_or-replicate, length-replicate}
-use Rattle.std.proofs.lemmas.List.Folds.{sum_by-replicate}
-use Rattle.std.proofs.lemmas.List.Sums.{sum_by-append}
-use Rattle.std.proofs.lemmas.Option.{slice_get-get_or, slice_get-map, slice_get_past}
-use Rattle.std.specs.Option.{option_and_then, option_map_or}
-use Rattle.std.specs.Prelude.{if◌then◌else◌, is_some, nat_lt, option_map, replicate, slice_get, sum, sum_by}
-use Rattle.profil_hist.specs.Counts.{RowText, bucket_in, met, no_counts, no_hits}
-use Rattle.profil_hist.specs.Histograms.{IsHist, IsHistogram, has_bucket, hist_text}
-use Rattle.profil_hist.specs.Ranges.{IsMap, RangeText}
+use Rattle.profil_hist.proofs.Words.{◌≡◌, ◌∙◌, ◌∷◌, ℕ, List, [], Option, Some, None, Bool, true, false, map, length, refl, ap, arith, ltb-false}
+use Rattle.profil_hist.proofs.Words.{ltb-true, get_or-replicate, length-replicate, sum_by-replicate, sum_by-append, slice_get-get_or, slice_get-map}
+use Rattle.profil_hist.proofs.Words.{slice_get_past, option_and_then, option_map_or, if◌then◌else◌, is_some, nat_lt, option_map, replicate, slice_get}
+use Rattle.profil_hist.proofs.Words.{sum, sum_by, RowText, bucket_in, met, no_counts, no_hits, IsHist, IsHistogram, has_bucket, hist_text, IsMap}
+use Rattle.profil_hist.proofs.Words.{RangeText}
 use Rattle.profil_hist.proofs.Noted.{Shape, shape-at}
 
 shape-none : (ranges : List RangeText) → Shape ranges (no_counts ranges)

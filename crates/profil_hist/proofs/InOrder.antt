@@ -1,23 +1,11 @@
 -- The search of the range of an address among the ranges in the order of their addresses.
-use Rattle.std.proofs.Common.{◌≡◌, ◌∙◌, ◌+◌, ◌-◌, ◌*◌, ◌/◌, ◌<◌, ◌≤◌, ◌∷◌, ℕ, zero, suc, List, [], Option, Some, None, Bool, true}
-use Rattle.std.proofs.Common.{false, length, get_or, refl, sym, ap, subst, arith, map, ◌++◌, eq-eqb}
-use Rattle.std.proofs.Math.Bool.{or-true}
-use Rattle.std.proofs.Math.Nat.{div-lt_iff_lt-mul, div-mul-le_self, lt-mul-div-succ, mul_comm, mul-le-mul}
-use Rattle.std.proofs.lemmas.Bool.{eqb-true, lt-ltb, ltb-false, ltb-true, false_from_ne_true, and_from}
-use Rattle.std.proofs.lemmas.Option.{slice_get-get_or, slice_get-map, slice_get_within}
-use Rattle.std.specs.Prelude.{◌||◌, ◌==◌, nat_lt, option_map, slice_get}
-use Rattle.std.proofs.lemmas.List.{length-map}
-use Rattle.std.proofs.lemmas.List.Elements.{All-push}
-use Rattle.std.proofs.lemmas.List.Folds.{list_any-append}
-use Rattle.std.proofs.lemmas.List.Sorted.{All-permutation, list_any-IsPermutation}
-use Rattle.std.specs.List.{list_any}
-use Rattle.std.specs.List.Sorted.{IsPartitionPoint, IsPermutation}
-use Rattle.papi_base.proofs.Steps.{all_at}
-use Rattle.profil_hist.specs.Views.{range_text}
-use Rattle.profil_hist.specs.declared.range.MapRange.{MapRange}
-use Rattle.profil_hist.specs.Places.{ArePlacesOf, IsOrder, IsPlaced}
-use Rattle.profil_hist.specs.Ranges.{IsMap, IsRange, RangeText, end_of, in_bucket, in_range}
-use Rattle.profil_hist.specs.declared.placing.RangeStart.{RangeStart}
+use Rattle.profil_hist.proofs.Words.{◌≡◌, ◌∙◌, ◌+◌, ◌-◌, ◌*◌, ◌/◌, ◌<◌, ◌≤◌, ◌∷◌, ℕ, zero, suc, List, [], Option, Some, None, Bool, true, false}
+use Rattle.profil_hist.proofs.Words.{length, get_or, refl, sym, ap, subst, arith, map, ◌++◌, eq-eqb, or-true, div-lt_iff_lt-mul, div-mul-le_self}
+use Rattle.profil_hist.proofs.Words.{lt-mul-div-succ, mul_comm, mul-le-mul, eqb-true, lt-ltb, ltb-false, ltb-true, false_from_ne_true, and_from}
+use Rattle.profil_hist.proofs.Words.{slice_get-get_or, slice_get-map, slice_get_within, ◌||◌, ◌==◌, nat_lt, option_map, slice_get, length-map}
+use Rattle.profil_hist.proofs.Words.{All-push, list_any-append, All-permutation, list_any-IsPermutation, list_any, IsPartitionPoint, IsPermutation}
+use Rattle.profil_hist.proofs.Words.{all_at, range_text, MapRange, ArePlacesOf, IsOrder, IsPlaced, IsMap, IsRange, RangeText, end_of, in_bucket}
+use Rattle.profil_hist.proofs.Words.{in_range, RangeStart}
 use Rattle.profil_hist.proofs.Noted.{inside, true-not-false, two-apart, within}
 
 -- ---- the bucket of an address

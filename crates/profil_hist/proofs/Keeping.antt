@@ -1,19 +1,9 @@
 -- A row with no cause keeps what a map keeps.
-use Rattle.std.proofs.Common.{◌≡◌, ◌+◌, ◌∷◌, ◌++◌, List, [], None, length, arith, length-append}
-use Rattle.std.proofs.lemmas.Bool.{leb-false, or_parts}
+use Rattle.profil_hist.proofs.Words.{◌≡◌, ◌+◌, ◌∷◌, ◌++◌, List, [], None, length, arith, length-append, leb-false, or_parts, sum_by-append, ◌||◌}
+use Rattle.profil_hist.proofs.Words.{nat_le, nat_lt, list_any, bytes_eq, passed_over, all-append, no_two-more, IsLine, Line, range, cause_in}
+use Rattle.profil_hist.proofs.Words.{range_cause, IsMap, IsRange, RangeText, buckets_in_all, overlaps, with_line, MOST_BUCKETS, MOST_RANGES}
 use borrow.Author.Tests.{ltb-false}
-use Rattle.std.proofs.lemmas.List.Sums.{sum_by-append}
-use Rattle.std.specs.Prelude.{◌||◌, nat_le, nat_lt}
-use Rattle.std.specs.List.{list_any}
-use Rattle.std.specs.Str.{bytes_eq}
-use Rattle.papi_base.proofs.Steps.{passed_over}
-use Rattle.table_rows.proofs.Texts.{all-append, no_two-more}
-use Rattle.profil_hist.specs.Lines.{IsLine, Line, range}
-use Rattle.profil_hist.specs.Maps.{cause_in, range_cause}
-use Rattle.profil_hist.specs.Ranges.{IsMap, IsRange, RangeText, buckets_in_all, overlaps}
-use Rattle.profil_hist.specs.Steps.{with_line}
 use Rattle.profil_hist.specs.declared.fault.MapCause.TheVariants as cause
-use Rattle.profil_hist.specs.declared.limits.TheConstants.{MOST_BUCKETS, MOST_RANGES}
 
 range-kept : (above : List RangeText) (r : RangeText) → IsRange r → range_cause above r ≡ None → IsMap above → IsMap (above ++ r ∷ [])
 range-kept above r is e h =

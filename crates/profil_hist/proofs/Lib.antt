@@ -6,3 +6,4 @@ pub mod Noted
 pub mod Profiled
 pub mod Rows
 pub mod RowsRead
+pub mod Words

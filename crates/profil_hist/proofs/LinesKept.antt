@@ -1,14 +1,8 @@
 -- What a row of a map keeps, by itself.
-use Rattle.std.proofs.Common.{ℕ, List, length}
-use Rattle.std.proofs.lemmas.Bool.{leb-true, and_parts, cond_both}
+use Rattle.profil_hist.proofs.Words.{ℕ, List, length, leb-true, and_parts, cond_both, option_map_or, bytes_eq, Text, decimal_in, is_name, is_skipped}
+use Rattle.profil_hist.proofs.Words.{text_at, decimal_in-range, option_both, IsLine, skipped, bad, range, address_in, fits, line_of, range_line}
+use Rattle.profil_hist.proofs.Words.{range_of, MOST_BUCKETS, MOST_BUCKET_ADDRESSES}
 use Rattle.std.specs.Prelude.{◌&&◌, ◌==◌, ◌+◌, ◌*◌, ◌^◌, if◌then◌else◌, codes}
-use Rattle.std.specs.Option.{option_map_or}
-use Rattle.std.specs.Str.{bytes_eq}
-use Rattle.table_rows.specs.Texts.{Text, decimal_in, is_name, is_skipped, text_at}
-use Rattle.table_rows.proofs.Ranges.{decimal_in-range}
-use Rattle.table_rows.proofs.Texts.{option_both}
-use Rattle.profil_hist.specs.Lines.{IsLine, skipped, bad, range, address_in, fits, line_of, range_line, range_of}
-use Rattle.profil_hist.specs.declared.limits.TheConstants.{MOST_BUCKETS, MOST_BUCKET_ADDRESSES}
 
 range_line-kept : (name start width buckets : Text) → IsLine (range_line name start width buckets)
 range_line-kept name start width buckets =

@@ -1,22 +1,11 @@
 -- One program counter more in a histogram.
-use Rattle.std.proofs.Common.{◌≡◌, ◌∙◌, ◌+◌, ◌*◌, ◌<◌, ◌≤◌, ◌^◌, ◌∷◌, ◌++◌, ℕ, zero, suc, List, [], Option, Some, None, Bool, true, false}
-use Rattle.std.proofs.Common.{map, length, get_or, refl, sym, ap, subst, arith, eq-eqb, length-append}
-use Rattle.std.proofs.Math.ListN.{set, length-set}
-use Rattle.std.proofs.Math.Nat.{mul_comm, mul-le-mul_right}
-use Rattle.std.proofs.lemmas.Bool.{eqb-true, ltb-false, le-leb, leb-true, lt-ltb, ltb-true, and_parts, false_from_ne_true, and_from}
-use Rattle.std.proofs.lemmas.List.Folds.{list_any_at}
-use Rattle.std.proofs.lemmas.List.Sums.{sum_by-append, sum_by-set}
-use Rattle.std.proofs.lemmas.Option.{get_or_from_slice_get, slice_get-map, slice_get_within}
+use Rattle.profil_hist.proofs.Words.{◌≡◌, ◌∙◌, ◌+◌, ◌*◌, ◌<◌, ◌≤◌, ◌^◌, ◌∷◌, ◌++◌, ℕ, zero, suc, List, [], Option, Some, None, Bool, true, false, map}
+use Rattle.profil_hist.proofs.Words.{length, get_or, refl, sym, ap, subst, arith, eq-eqb, length-append, set, length-set, mul_comm, mul-le-mul_right}
+use Rattle.profil_hist.proofs.Words.{eqb-true, ltb-false, le-leb, leb-true, lt-ltb, ltb-true, and_parts, false_from_ne_true, and_from, list_any_at}
+use Rattle.profil_hist.proofs.Words.{sum_by-append, sum_by-set, get_or_from_slice_get, slice_get-map, slice_get_within, list_any, option_and_then}
+use Rattle.profil_hist.proofs.Words.{option_map_or, all_at, none_any, IsThere, RowText, met, with_hit, with_note, HistText, IsHist, IsHistogram}
+use Rattle.profil_hist.proofs.Words.{bucket_count, range_count, IsPlaceOf, NoTwo, RangeText, end_of, in_bucket, in_range, overlaps, Place}
 use Rattle.std.specs.Prelude.{◌&&◌, ◌==◌, count_by, if◌then◌else◌, nat_le, nat_lt, not, option_map, slice_get, sum, sum_by}
-use Rattle.std.specs.List.{list_any}
-use Rattle.std.specs.Option.{option_and_then, option_map_or}
-use Rattle.papi_base.proofs.Steps.{all_at, none_any}
-use Rattle.profil_hist.specs.Counts.{IsThere, RowText, met, with_hit, with_note}
-use Rattle.profil_hist.specs.Histograms.{HistText, IsHist, IsHistogram, bucket_count, range_count}
-use Rattle.profil_hist.specs.Places.{IsPlaceOf}
-use Rattle.table_rows.specs.Tables.{NoTwo}
-use Rattle.profil_hist.specs.Ranges.{RangeText, end_of, in_bucket, in_range, overlaps}
-use Rattle.profil_hist.specs.declared.placing.Place.{Place}
 
 -- ---- tests and numbers
 

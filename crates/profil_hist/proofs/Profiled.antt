@@ -1,12 +1,8 @@
 -- The text of a histogram, range by range and bucket by bucket.
-use Rattle.std.proofs.Common.{◌≡◌, ◌∙◌, ◌<◌, ◌+◌, ◌∷◌, ◌++◌, ℕ, zero, suc, List, [], Option, Some, None, Result, Ok, Err, IfOk, length}
+use Rattle.profil_hist.proofs.Words.{◌≡◌, ◌∙◌, ◌<◌, ◌+◌, ◌∷◌, ◌++◌, ℕ, zero, suc, List, [], Option, Some, None, Result, Ok, Err, IfOk, length}
+use Rattle.profil_hist.proofs.Words.{slice_get, unwrap_or, flat_map, range_with_len, Text, HistText, IsHistogram, bucket_line, count_or_none}
+use Rattle.profil_hist.proofs.Words.{hist_lines, hits_or_none, last_lines, lines_at, profile_text, range_lines, RangeText, in_bucket, in_range}
 use Rattle.std.proofs.Common.{ap, ap₂, refl, arith, option_map, count_by, lt-ltb, codes, decimal}
-use Rattle.std.specs.Prelude.{slice_get, unwrap_or}
-use Rattle.std.specs.List.{flat_map, range_with_len}
-use Rattle.table_rows.specs.Texts.{Text}
-use Rattle.profil_hist.specs.Histograms.{HistText, IsHistogram}
-use Rattle.profil_hist.specs.Profiles.{bucket_line, count_or_none, hist_lines, hits_or_none, last_lines, lines_at, profile_text, range_lines}
-use Rattle.profil_hist.specs.Ranges.{RangeText, in_bucket, in_range}
 
 -- there is a range in each place below their number
 pub is_there : {X Y : Type 0} (view : Y → X) (found : Option Y) (xs : List X) (k : ℕ) → option_map view found ≡ slice_get xs k → ((y : Y) → found ≡ Some y → ⊥) → k < length xs → ⊥

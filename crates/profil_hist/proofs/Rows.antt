@@ -1,14 +1,7 @@
 -- The counts of ranges in memory.
-use Rattle.std.proofs.Common.{◌≡◌, ◌∙◌, ◌<◌, ◌≤◌, ℕ, List, Option, Some, None, true, map, length, get_or, refl, sym, ap, arith}
-use Rattle.std.proofs.Math.ListN.{set}
-use Rattle.std.proofs.lemmas.Bool.{ltb-true}
-use Rattle.std.proofs.lemmas.List.{get_or-map, length-map, map-set}
-use Rattle.std.proofs.lemmas.List.Sums.{get_or-le-sum_by}
-use Rattle.std.proofs.lemmas.Option.{slice_get-get_or, slice_get-map, slice_get_within}
-use Rattle.std.specs.Prelude.{nat_lt, option_map, slice_get, sum_by}
-use Rattle.profil_hist.specs.Counts.{IsThere, RowText, counts_text, with_hit, with_note}
-use Rattle.profil_hist.specs.declared.counts.RangeCounts.{RangeCounts}
-use Rattle.profil_hist.specs.declared.placing.Place.{Place}
+use Rattle.profil_hist.proofs.Words.{◌≡◌, ◌∙◌, ◌<◌, ◌≤◌, ℕ, List, Option, Some, None, true, map, length, get_or, refl, sym, ap, arith, set, ltb-true}
+use Rattle.profil_hist.proofs.Words.{get_or-map, length-map, map-set, get_or-le-sum_by, slice_get-get_or, slice_get-map, slice_get_within, nat_lt}
+use Rattle.profil_hist.proofs.Words.{option_map, slice_get, sum_by, IsThere, RowText, counts_text, with_hit, with_note, RangeCounts, Place}
 use Rattle.profil_hist.proofs.Noted.{noted-rows}
 
 pub record There (items : List RangeCounts) (p : Place) (x : RangeCounts) : Type 0 where

@@ -1,14 +1,7 @@
 -- The ranges of some rows and of one row more.
-use Rattle.std.proofs.Common.{◌≡◌, ◌∙◌, ◌∷◌, ◌++◌, List, [], refl, sym, ap, subst, arith}
+use Rattle.profil_hist.proofs.Words.{◌≡◌, ◌∙◌, ◌∷◌, ◌++◌, List, [], refl, sym, ap, subst, arith, TakesRow, takes-as, RowRefusal, IsLine, Line, range}
+use Rattle.profil_hist.proofs.Words.{skipped, cause_in, ranges_in, row_cause, IsMap, RangeText, GiveRanges, with_line, MapCause}
 use Rattle.std.specs.Prelude.{Result}
-use Rattle.table_rows.specs.Tables.{TakesRow}
-use Rattle.table_rows.proofs.TablesRead.{takes-as}
-use Rattle.table_rows.specs.declared.fault.RowRefusal.{RowRefusal}
-use Rattle.profil_hist.specs.Lines.{IsLine, Line, range, skipped}
-use Rattle.profil_hist.specs.Maps.{cause_in, ranges_in, row_cause}
-use Rattle.profil_hist.specs.Ranges.{IsMap, RangeText}
-use Rattle.profil_hist.specs.Steps.{GiveRanges, with_line}
-use Rattle.profil_hist.specs.declared.fault.MapCause.{MapCause}
 use Rattle.profil_hist.proofs.Keeping.{kept}
 
 one-more : (lines : List Line) (line : Line) → ranges_in (lines ++ line ∷ []) ≡ with_line (ranges_in lines) line

@@ -1,29 +1,12 @@
 -- The calls that begin to count an event with a threshold.
-use Rattle.std.proofs.Common.{◌≡◌, ◌≢◌, Bool, List, [], ◌∷◌, refl, ◌++◌, ap, sym, subst, ◌∙◌, append_assoc, Ok, Err, Some, None, Result, true, false, ap₂}
-use Rattle.std.proofs.lemmas.List.Elements.{All-from_recursion}
-use Rattle.std.specs.List.{All, AllByRecursion, list_all}
+use Rattle.profiler.proofs.Words.{◌≡◌, ◌≢◌, Bool, List, [], ◌∷◌, refl, ◌++◌, ap, sym, subst, ◌∙◌, append_assoc, Ok, Err, Some, None, Result, true}
+use Rattle.profiler.proofs.Words.{false, ap₂, All-from_recursion, All, AllByRecursion, list_all, IfErr, Code, Ecount, Book, Widths, Refusal, Plain}
+use Rattle.profiler.proofs.Words.{Conflict, Account, faces_of, plain, refused, account_after, performed, replies_to, step, unless, Call, Body, Reply}
+use Rattle.profiler.proofs.Words.{CoreView, Follows, IsRefusal, reply_of, CoreStands, first_refused, is_ok}
 use Rattle.std.specs.Prelude.{if◌then◌else◌, is_some}
-use Rattle.std.specs.Result.{IfErr}
 use Rattle.std.specs.Result as result
-use Rattle.papi_base.specs.declared.code.Code.{Code}
 use Rattle.papi_base.specs.declared.code.Code.TheVariants as code
-use Rattle.papi_base.specs.declared.code.Code.TheVariants.{Ecount}
-use Rattle.postfix_rules.specs.Presets.{Book}
-use Rattle.event_sets.specs.AtRest.{Widths}
-use Rattle.event_sets.specs.declared.refusal.Refusal.{Refusal}
-use Rattle.event_sets.specs.declared.refusal.Refusal.TheVariants.{Plain, Conflict}
-use Rattle.session_model.specs.Account.{Account}
-use Rattle.session_model.specs.Faces.{faces_of}
-use Rattle.session_model.specs.Replies.{plain, refused}
-use Rattle.session_model.specs.Step.{account_after, performed, replies_to, step, unless}
-use Rattle.session_model.specs.CallTypes.{Call}
 use Rattle.call_type.specs.declared.call.Call.TheVariants as call
-use Rattle.session_model.specs.declared.reply.Body.{Body}
-use Rattle.session_model.specs.declared.reply.Reply.{Reply}
-use Rattle.thread_core.specs.CoreView.{CoreView}
-use Rattle.thread_core.specs.Following.{Follows, IsRefusal, reply_of}
-use Rattle.thread_core.specs.Stands.{CoreStands}
-use Rattle.profiler.specs.Passings.{first_refused, is_ok}
 
 -- the core after some calls, each of which follows the account, and what they replied
 pub record Made (book : Book) (first now : CoreView) (made : List Call) (given : List Reply) : Type 0 where

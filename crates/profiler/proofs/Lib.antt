@@ -2,3 +2,4 @@ pub mod Armed
 pub mod Profiled
 pub mod Ranked
 pub mod Sampled
+pub mod Words

@@ -1,26 +1,9 @@
 -- A profile out of its parts.
-use Rattle.std.proofs.Common.{◌≡◌, ℕ, List, [], refl, ap, sym, subst, ◌∙◌, Ok, Err, Result, None, Vec, arith}
-use Rattle.std.proofs.lemmas.Result.{err_from_is_err_and}
-use Rattle.std.specs.Result.{IfOk, IsErrAnd, MatchResult}
-use Rattle.std.specs.declared.alloc.AllocError.{AllocError}
-use Rattle.std.specs.declared.alloc.Global.{Global}
-use Rattle.event_sets.specs.AtRest.{Widths}
-use Rattle.event_sets.specs.declared.refusal.Refusal.{Refusal}
-use Rattle.event_tables.specs.Tables.{shape_of}
-use Rattle.event_tables.specs.Unit.{unit_fault, unit_tables}
-use Rattle.name_encoder.specs.Names.{names}
-use Rattle.papi_base.specs.Streams.{Coming, Dry}
-use Rattle.papi_base.specs.declared.native.Native.{Native}
-use Rattle.postfix_rules.specs.Fitting.{BookFits}
-use Rattle.postfix_rules.specs.Presets.{Book}
-use Rattle.session_model.specs.Step.{account_after}
-use Rattle.profiler.specs.Hottest.{AreHottest}
-use Rattle.profiler.specs.Passings.{IsAnswered, Stops, calls, passings}
-use Rattle.profiler.specs.Profiles.{Begins, IsProfile, IsProfiled, before}
-use Rattle.profiler.specs.declared.profile.Fault.{Fault}
+use Rattle.profiler.proofs.Words.{◌≡◌, ℕ, List, [], refl, ap, sym, subst, ◌∙◌, Ok, Err, Result, None, Vec, arith, err_from_is_err_and, IfOk, IsErrAnd}
+use Rattle.profiler.proofs.Words.{MatchResult, AllocError, Global, Widths, Refusal, shape_of, unit_fault, unit_tables, names, Coming, Dry, Native}
+use Rattle.profiler.proofs.Words.{BookFits, Book, account_after, AreHottest, IsAnswered, Stops, calls, passings, Begins, IsProfile, IsProfiled}
+use Rattle.profiler.proofs.Words.{before, Fault, Hot, MOST}
 use Rattle.profiler.specs.declared.profile.Fault.TheVariants as fault
-use Rattle.profiler.specs.declared.ranking.Hot.{Hot}
-use Rattle.profiler.specs.declared.ranking.TheConstants.{MOST}
 
 pub empty_fits : (shape : Widths) (b : Book) → b ≡ [] → BookFits shape b
 empty_fits shape b e = subst (BookFits shape) (sym e) (record { each = λ k d small. absurd (omega (arith, small)) })

@@ -1,20 +1,11 @@
 -- The hottest addresses are the first of the sorted ones.
-use Rattle.std.proofs.Common.{◌≡◌, ◌≤◌, ◌<◌, ◌⊎◌, ℕ, List, Option, Some, None, true, false, arith, ◌+◌, refl, inl, inr, subst, sym, ap, ap₂, length, map, take, slice_index_or, unwrap_or, ◌∙◌}
-use Rattle.std.proofs.lemmas.Bool.{cases_lt}
-use Rattle.std.proofs.lemmas.Cmp.{eq_by_cmp_equiv, nat_cmp_total}
-use Rattle.std.proofs.lemmas.List.{get_or-map, get_or-take, get_or_default, length-map, length-take}
-use Rattle.std.proofs.lemmas.Simd.{map-map}
-use Rattle.std.proofs.lemmas.List.Elements.{All-map, All-take, All-weaker, Contains-get_or}
-use Rattle.std.proofs.lemmas.List.Sorted.{All-permutation, Contains-permutation, IsPermutation-map, sorted_far}
-use Rattle.std.proofs.lemmas.Map.Keys.{IsDistinct-IsPermutation, IsDistinct-from_sorted, apart_from_distinct}
-use Rattle.std.proofs.lemmas.Map.Views.{Contains-from_lookup, lookup-from_Contains}
-use Rattle.std.specs.BTreeMap.{BTreeMap, IsOrdered, get, keys}
-use Rattle.std.specs.Cmp.{IsStrictWeakOrder}
-use Rattle.std.specs.List.{All, Contains, IsDistinct}
-use Rattle.std.specs.List.Sorted.{IsPermutation, IsSortedBy}
-use Rattle.std.specs.Ordering.{eq_by_cmp, is_lt, nat_cmp, ordering_then}
-use Rattle.profiler.specs.declared.ranking.Hot.{Hot}
-use Rattle.profiler.specs.Hottest.{AreCounts, AreHottest, hot_at, is_hotter, passings_at}
+use Rattle.profiler.proofs.Words.{◌≡◌, ◌≤◌, ◌<◌, ◌⊎◌, ℕ, List, Option, Some, None, true, false, arith, ◌+◌, refl, inl, inr, subst, sym, ap, ap₂}
+use Rattle.profiler.proofs.Words.{length, map, take, slice_index_or, unwrap_or, ◌∙◌, cases_lt, eq_by_cmp_equiv, nat_cmp_total, get_or-map}
+use Rattle.profiler.proofs.Words.{get_or-take, get_or_default, length-map, length-take, map-map, All-map, All-take, All-weaker, Contains-get_or}
+use Rattle.profiler.proofs.Words.{All-permutation, Contains-permutation, IsPermutation-map, sorted_far, IsDistinct-IsPermutation}
+use Rattle.profiler.proofs.Words.{IsDistinct-from_sorted, apart_from_distinct, Contains-from_lookup, lookup-from_Contains, BTreeMap, IsOrdered, get}
+use Rattle.profiler.proofs.Words.{keys, IsStrictWeakOrder, All, Contains, IsDistinct, IsPermutation, IsSortedBy, eq_by_cmp, is_lt, nat_cmp}
+use Rattle.profiler.proofs.Words.{ordering_then, Hot, AreCounts, AreHottest, hot_at, is_hotter, passings_at}
 
 -- an entry of the counts
 abbrev pub hot_of : ℕ × ℕ → Hot

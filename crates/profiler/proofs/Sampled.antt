@@ -1,24 +1,10 @@
 -- Sampling a stream, occurrence by occurrence.
-use Rattle.std.proofs.Common.{◌≡◌, ℕ, ◌+◌, ◌≤◌, ◌<◌, List, [], ◌∷◌, ◌++◌, length, map, replicate, refl, ap, sym, subst, ◌∙◌, arith, append_assoc, append-nil, Option, Some, if◌then◌else◌, ◌==◌, unwrap_or, zero, suc}
-use Rattle.std.proofs.lemmas.List.{map-append}
-use Rattle.std.proofs.lemmas.List.Sums.{sum_by-append}
-use Rattle.std.specs.BTreeMap.{BTreeMap, get, is_at}
-use Rattle.std.specs.Map.{lookup}
-use Rattle.std.specs.Option.{option_map}
-use Rattle.std.specs.Ordering.{nat_cmp}
-use Rattle.papi_base.specs.declared.occurrence.Occ.{Occ}
-use Rattle.papi_base.specs.Streams.{Coming, Mark}
-use Rattle.overflow_dispatch.specs.declared.handler.Note.{Note}
-use Rattle.postfix_rules.specs.Presets.{Book}
-use Rattle.session_model.specs.Account.{Account, Kept}
-use Rattle.session_model.specs.Thresholds.{note, notes_at, notes_over}
+use Rattle.profiler.proofs.Words.{◌≡◌, ℕ, ◌+◌, ◌≤◌, ◌<◌, List, [], ◌∷◌, ◌++◌, length, map, replicate, refl, ap, sym, subst, ◌∙◌, arith, append_assoc}
+use Rattle.profiler.proofs.Words.{append-nil, Option, Some, if◌then◌else◌, ◌==◌, unwrap_or, zero, suc, map-append, sum_by-append, BTreeMap, get}
+use Rattle.profiler.proofs.Words.{is_at, lookup, option_map, nat_cmp, Occ, Coming, Mark, Note, Book, Account, Kept, note, notes_at, notes_over}
+use Rattle.profiler.proofs.Words.{GaveAll, gave_mark, gave_more, GaveOne, NextGives, ReaderView, at_mark, CoreView, CoreStands, consumed, passings_at}
+use Rattle.profiler.proofs.Words.{AreInStep, passings}
 use Rattle.stream_reader.specs.declared.next.Next.TheVariants as next
-use Rattle.stream_reader.proofs.Giving.{GaveAll, gave_mark, gave_more}
-use Rattle.stream_reader.specs.Reader.{GaveOne, NextGives, ReaderView, at_mark}
-use Rattle.thread_core.specs.CoreView.{CoreView}
-use Rattle.thread_core.specs.Stands.{CoreStands, consumed}
-use Rattle.profiler.specs.Hottest.{passings_at}
-use Rattle.profiler.specs.Passings.{AreInStep, passings}
 
 -- the account after these occurrences
 abbrev pub consuming : List Occ → Account → Account

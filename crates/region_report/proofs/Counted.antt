@@ -1,12 +1,7 @@
 -- Values at each place, and spans, one more at a time.
-use Rattle.std.proofs.Common.{◌≡◌, ◌<◌, ◌≤◌, ◌+◌, ◌∷◌, ◌++◌, ℕ, ℤ, Bool, true, false, List, [], Some, length, drop, ap, refl}
-use Rattle.std.proofs.Common.{arith, append_assoc, append-nil, get_or, length-append, min, nat_le, slice_get}
-use Rattle.std.proofs.lemmas.Bool.{leb-false, leb-true}
-use Rattle.std.proofs.lemmas.List.{drop_all}
-use Rattle.papi_base.proofs.Steps.{drop_at, drop_item}
-use Rattle.region_report.specs.Lines.{is_reading}
-use Rattle.region_report.specs.Spans.{Span, pairwise, span, spans_at, spans_from}
-use Rattle.region_report.specs.declared.regions.RegionLine.{RegionLine}
+use Rattle.region_report.proofs.Words.{◌≡◌, ◌<◌, ◌≤◌, ◌+◌, ◌∷◌, ◌++◌, ℕ, ℤ, Bool, true, false, List, [], Some, length, drop, ap, refl, arith}
+use Rattle.region_report.proofs.Words.{append_assoc, append-nil, get_or, length-append, min, nat_le, slice_get, leb-false, leb-true, drop_all}
+use Rattle.region_report.proofs.Words.{drop_at, drop_item, is_reading, Span, pairwise, span, spans_at, spans_from, RegionLine}
 
 pairs : (f : ℤ → ℤ → ℤ) (x y : ℤ) (xs ys : List ℤ) → pairwise f (x ∷ xs) (y ∷ ys) ≡ f x y ∷ pairwise f xs ys
 unfolding pairwise

@@ -1,11 +1,8 @@
 -- Flags of threads, and threads without lines.
-use Rattle.std.proofs.Common.{◌≡◌, ◌∙◌, ◌<◌, ◌+◌, ◌∷◌, ℕ, Bool, false, List, [], ap, get_or, length, map, refl, sym, take}
-use Rattle.std.proofs.lemmas.Bool.{or_parts}
-use Rattle.std.proofs.lemmas.List.Folds.{list_any_more}
+use Rattle.region_report.proofs.Words.{◌≡◌, ◌∙◌, ◌<◌, ◌+◌, ◌∷◌, ℕ, Bool, false, List, [], ap, get_or, length, map, refl, sym, take, or_parts}
+use Rattle.region_report.proofs.Words.{list_any_more, flat_map, list_any, is_begin, name_of, region_text, thread_text, with_begin, with_name, Span}
+use Rattle.region_report.proofs.Words.{has_spans}
 use Rattle.std.specs.Prelude.{◌==◌, ◌&&◌, ◌||◌, fold, if◌then◌else◌}
-use Rattle.std.specs.List.{flat_map, list_any}
-use Rattle.region_report.specs.Reports.{is_begin, name_of, region_text, thread_text, with_begin, with_name}
-use Rattle.region_report.specs.Spans.{Span, has_spans}
 
 any_seen : {X Y : Type 0} (view : X → Y) (q : Y → Bool) (xs : List X) → list_any q (map view xs) ≡ list_any (λ x. q (view x)) xs
 any_seen view q [] = refl

@@ -5,3 +5,4 @@ pub mod Pieces
 pub mod ScriptRead
 pub mod Stacks
 pub mod TotalsKept
+pub mod Words

@@ -1,28 +1,14 @@
 -- A line of the script of calls is read as its call.
-use Rattle.std.proofs.Common.{◌-◌, ◌≡◌, ◌∙◌, ◌<◌, ◌≤◌, ◌+◌, ◌^◌, ◌∷◌, ◌++◌, ℕ, zero, suc, Bool, true, false, not, List, [], Some, codes}
-use Rattle.std.proofs.Common.{decimal, length, map, refl, sym, subst, ap, ap₂, arith, tests, append-nil, get_or, nat_le, slice_index}
+use Rattle.region_report.proofs.Words.{◌-◌, ◌≡◌, ◌∙◌, ◌<◌, ◌≤◌, ◌+◌, ◌^◌, ◌∷◌, ◌++◌, ℕ, zero, suc, Bool, true, false, not, List, [], Some, codes}
+use Rattle.region_report.proofs.Words.{decimal, length, map, refl, sym, subst, ap, ap₂, arith, tests, append-nil, get_or, nat_le, slice_index}
+use Rattle.region_report.proofs.Words.{AllByRecursion, list_all, and_from, le-leb, and_parts, decimal_digit, first_decimal, decimal_nonempty, THREADS}
+use Rattle.region_report.proofs.Words.{is_empty, Text, decimal_in, is_decimal, is_numeral, is_printable, is_printable_byte, Digits, decimal-digits}
+use Rattle.region_report.proofs.Words.{decimal-numeral, decimal-value, Call, BadNumber, BadThread, number_in, number_or, call_of, call_rows}
+use Rattle.region_report.proofs.Words.{call_line, is_skipped, line_of_words, line_with, thread_in, lines_from, onto, scripts, words_of, no_more, said}
+use Rattle.region_report.proofs.Words.{is_plain, no-words, word-ends, call_text, ThreadCall, is_event, is_event_character, numbered}
 use Rattle.std.specs.Prelude.{◌||◌, ◌==◌, Ok}
-use Rattle.std.specs.List.{AllByRecursion, list_all}
-use Rattle.std.proofs.lemmas.Bool.{and_from, le-leb, and_parts}
-use Rattle.std.proofs.lemmas.Fmt.{decimal_digit, first_decimal, decimal_nonempty}
-use Rattle.papi_base.specs.declared.limits.TheConstants.{THREADS}
-use Rattle.papi_base.specs.Numerals.{is_empty}
-use Rattle.table_rows.specs.Texts.{Text, decimal_in, is_decimal, is_numeral, is_printable, is_printable_byte}
-use Rattle.table_rows.proofs.Texts.{Digits, decimal-digits, decimal-numeral, decimal-value}
 use Rattle.call_type.specs.declared.call.Asked.TheVariants as line
-use Rattle.call_type.specs.declared.call.Call.{Call}
 use Rattle.call_type.specs.declared.call.Call.TheVariants as script
-use Rattle.script_lines.specs.declared.fault.ScriptCause.TheVariants.{BadNumber, BadThread}
-use Rattle.script_lines.specs.Arguments.{number_in, number_or}
-use Rattle.script_lines.specs.Calls.{call_of, call_rows}
-use Rattle.script_lines.specs.Lines.{call_line, is_skipped, line_of_words, line_with, thread_in}
-use Rattle.script_lines.specs.ByLine.{lines_from, onto}
-use Rattle.script_lines.specs.Scripts.{scripts}
-use Rattle.script_lines.specs.Words.{words_of}
-use Rattle.script_lines.proofs.Reading.{no_more, said}
-use Rattle.script_lines.proofs.Splits.{is_plain, no-words, word-ends}
-use Rattle.region_report.specs.Calls.{call_text}
-use Rattle.region_report.specs.CallLines.{ThreadCall, is_event, is_event_character, numbered}
 
 -- ---- the text of a call
 

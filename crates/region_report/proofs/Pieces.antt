@@ -1,7 +1,6 @@
 -- Texts that grow at their end, and lists that are worked item by item.
 use Rattle.std.proofs.Common.{◌≡◌, ◌∙◌, ◌<◌, ◌≤◌, ◌+◌, ◌∷◌, ℕ, zero, suc, List, [], length, drop, map, sym, ap, arith, get_or, slice_index_or}
-use Rattle.std.proofs.lemmas.List.{drop_all, drop_more}
-use Rattle.std.specs.Prelude.{fold}
+use Rattle.region_report.proofs.Words.{drop_all, drop_more, fold}
 
 -- a fold goes on after one item more
 pub fold_on : {X Y A : Type 0} (view : X → Y) (f : A → Y → A) (xs : List X) (i : ℕ) (x : X) (now next all : A) → i < length xs → x ≡ get_or xs i x → next ≡ f now (view x) →

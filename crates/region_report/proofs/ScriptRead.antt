@@ -1,31 +1,14 @@
 -- The script of calls that a region script stands for is read as its calls.
-use Rattle.std.proofs.Common.{◌≡◌, ◌∙◌, ◌<◌, ◌≤◌, ◌+◌, ◌*◌, ◌-◌, ◌^◌, ◌∷◌, ◌++◌, ℕ, zero, suc, Bool, true, false, not, List, [], Some}
-use Rattle.std.proofs.Common.{codes, decimal, drop, length, map, refl, sym, ap, ap₂, arith, tests, append_assoc, append-nil}
-use Rattle.std.proofs.Common.{if◌then◌else◌, length-append, slice_index}
-use Rattle.std.specs.Prelude.{◌&&◌, ◌==◌, nat_lt, position}
-use Rattle.std.specs.List.{AllByRecursion, flat_map, list_all, position_or_len, range_with_len}
-use Rattle.std.specs.Str.Lines.{lines, strip_carriage_return}
-use Rattle.std.proofs.lemmas.Bool.{lt-ltb, and_parts}
-use Rattle.std.proofs.lemmas.Grind.{flat_map-append}
-use Rattle.std.proofs.lemmas.List.{length-map, take_at}
-use Rattle.std.proofs.lemmas.List.Elements.{recursion_from_All}
-use Rattle.std.proofs.lemmas.List.Folds.{flat_map-map}
-use Rattle.papi_base.specs.declared.limits.TheConstants.{THREADS}
-use Rattle.papi_base.specs.Numerals.{is_empty}
-use Rattle.table_rows.specs.Texts.{Text}
-use Rattle.table_rows.proofs.Texts.{Digits, decimal-digits}
-use Rattle.call_type.specs.declared.call.Call.{Call}
+use Rattle.region_report.proofs.Words.{◌≡◌, ◌∙◌, ◌<◌, ◌≤◌, ◌+◌, ◌*◌, ◌-◌, ◌^◌, ◌∷◌, ◌++◌, ℕ, zero, suc, Bool, true, false, not, List, [], Some, codes}
+use Rattle.region_report.proofs.Words.{decimal, drop, length, map, refl, sym, ap, ap₂, arith, tests, append_assoc, append-nil, if◌then◌else◌}
+use Rattle.region_report.proofs.Words.{length-append, slice_index, ◌&&◌, ◌==◌, nat_lt, position, AllByRecursion, flat_map, list_all, position_or_len}
+use Rattle.region_report.proofs.Words.{range_with_len, lines, strip_carriage_return, lt-ltb, and_parts, flat_map-append, length-map, take_at}
+use Rattle.region_report.proofs.Words.{recursion_from_All, flat_map-map, THREADS, is_empty, Text, Digits, decimal-digits, Call, lines_from, script_of}
+use Rattle.region_report.proofs.Words.{scripts, lines-cut, call_text, has_lines, line_text, opening, script_text, thread_opening, words_of_call}
+use Rattle.region_report.proofs.Words.{AreEvents, ReadsAsCalls, ThreadCall, asked, asked_at, asked_first, asks, call_for, is_event}
+use Rattle.region_report.proofs.Words.{is_event_character, opening_calls, IsRegions, count_of, RegionCall, RegionLine}
 use Rattle.call_type.specs.declared.call.Call.TheVariants as script
-use Rattle.script_lines.specs.ByLine.{lines_from}
-use Rattle.script_lines.specs.Scripts.{script_of, scripts}
-use Rattle.script_lines.proofs.LineCuts.{lines-cut}
-use Rattle.region_report.specs.Calls.{call_text, has_lines, line_text, opening, script_text, thread_opening, words_of_call}
-use Rattle.region_report.specs.CallLines.{AreEvents, ReadsAsCalls, ThreadCall, asked, asked_at, asked_first, asks, call_for, is_event}
-use Rattle.region_report.specs.CallLines.{is_event_character, opening_calls}
-use Rattle.region_report.specs.Kept.{IsRegions, count_of}
-use Rattle.region_report.specs.declared.regions.RegionCall.{RegionCall}
 use Rattle.region_report.specs.declared.regions.RegionCall.TheVariants as call
-use Rattle.region_report.specs.declared.regions.RegionLine.{RegionLine}
 use Rattle.region_report.proofs.LineRead.{AreWritten, IsWritten, line_for, lines_read, text_for, words_for, written}
 
 -- ---- lines

@@ -1,15 +1,8 @@
 -- The open regions as they are kept.
-use Rattle.std.proofs.Common.{OnOk, Result, Ok, Err, true, false, drop, eq-eqb, slice_set, ◌≡◌, ◌∙◌, ◌<◌, ◌≤◌, ◌+◌, ℕ}
-use Rattle.std.proofs.Common.{List, [], length, sym, ap, refl, arith, get_or, Vec, Global}
-use Rattle.std.proofs.lemmas.List.{drop_all, length-map, map-set}
-use Rattle.std.proofs.lemmas.Bool.{ne_eqb}
-use Rattle.papi_base.proofs.Steps.{drop_item}
-use Rattle.region_report.specs.Lines.{after_call, after_line}
-use Rattle.region_report.specs.Opens.{open_text, stack_text, stacks_text}
-use Rattle.region_report.specs.Scripts.{all_ended}
-use Rattle.region_report.specs.declared.regions.RegionLine.{RegionLine}
+use Rattle.region_report.proofs.Words.{OnOk, Result, Ok, Err, true, false, drop, eq-eqb, slice_set, ◌≡◌, ◌∙◌, ◌<◌, ◌≤◌, ◌+◌, ℕ, List, [], length, sym}
+use Rattle.region_report.proofs.Words.{ap, refl, arith, get_or, Vec, Global, drop_all, length-map, map-set, ne_eqb, drop_item, after_call, after_line}
+use Rattle.region_report.proofs.Words.{open_text, stack_text, stacks_text, all_ended, RegionLine, OpenRegion}
 use Rattle.region_report.proofs.Pieces.{at_place}
-use Rattle.region_report.specs.declared.opened.OpenRegion.{OpenRegion}
 
 -- the regions of one thread more
 pub ended_on : (threads : List (Vec OpenRegion Global)) (i : ℕ) (x : Vec OpenRegion Global) → i < length threads → x ≡ get_or threads i x → length x.items ≡ 0 →

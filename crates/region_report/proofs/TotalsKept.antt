@@ -1,23 +1,12 @@
 -- The totals of a thread's regions after one span more, and the lines of regions one by one.
-use Rattle.std.proofs.Common.{◌≡◌, ◌∙◌, ◌<◌, ◌≤◌, ◌+◌, ◌^◌, ◌∷◌, ◌++◌, ℕ, ℤ, zero, suc, Bool, true, false, not, List, [], None, Some, All, cond}
-use Rattle.std.proofs.Common.{count_by, drop, length, map, take, refl, sym, ap, ap₂, arith, append_assoc, append-nil, get_or, if◌then◌else◌, w64}
+use Rattle.region_report.proofs.Words.{◌≡◌, ◌∙◌, ◌<◌, ◌≤◌, ◌+◌, ◌^◌, ◌∷◌, ◌++◌, ℕ, ℤ, zero, suc, Bool, true, false, not, List, [], None, Some, All}
+use Rattle.region_report.proofs.Words.{cond, count_by, drop, length, map, take, refl, sym, ap, ap₂, arith, append_assoc, append-nil, get_or}
+use Rattle.region_report.proofs.Words.{if◌then◌else◌, w64, int_wrapping_add, flat_map, list_any, position_or_len, Decides, bytes_eq, ltb-false}
+use Rattle.region_report.proofs.Words.{or_parts, bytes_eq-Decides, drop_all, drop_more, length-map, map-append, take_more, All-cons, All-nil}
+use Rattle.region_report.proofs.Words.{list_any-append, count_by-le-length, fold-append, sum_by-append, drop_at, Text, ends, is_begin, is_end}
+use Rattle.region_report.proofs.Words.{name_of, names_of, total, total_text, region_text, thread_text, with_begin, with_end, with_name, Span}
+use Rattle.region_report.proofs.Words.{pairwise, changed, ends_one, place_of, total_of, totals_text, with_instance, with_instance_at, RegionTotal}
 use Rattle.std.specs.Prelude.{◌&&◌, ◌==◌, ◌||◌, fold, nat_lt, pos, position, replicate, slice_get, slice_set}
-use Rattle.std.specs.Int.{int_wrapping_add}
-use Rattle.std.specs.List.{flat_map, list_any, position_or_len}
-use Rattle.std.specs.Bool.{Decides}
-use Rattle.std.specs.Str.{bytes_eq}
-use Rattle.std.proofs.lemmas.Bool.{ltb-false, or_parts}
-use Rattle.std.proofs.lemmas.Slice.Eq.{bytes_eq-Decides}
-use Rattle.std.proofs.lemmas.List.{drop_all, drop_more, length-map, map-append, take_more}
-use Rattle.std.proofs.lemmas.List.Elements.{All-cons, All-nil}
-use Rattle.std.proofs.lemmas.List.Folds.{list_any-append}
-use Rattle.std.proofs.lemmas.List.Sums.{count_by-le-length, fold-append, sum_by-append}
-use Rattle.papi_base.proofs.Steps.{drop_at}
-use Rattle.table_rows.specs.Texts.{Text}
-use Rattle.region_report.specs.Reports.{ends, is_begin, is_end, name_of, names_of, total, total_text, region_text, thread_text, with_begin, with_end, with_name}
-use Rattle.region_report.specs.Spans.{Span, pairwise}
-use Rattle.region_report.specs.Totals.{changed, ends_one, place_of, total_of, totals_text, with_instance, with_instance_at}
-use Rattle.region_report.specs.declared.totals.RegionTotal.{RegionTotal}
 
 -- ---- names that differ
 

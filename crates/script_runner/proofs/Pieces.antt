@@ -1,12 +1,8 @@
 -- Texts of items that are gathered and written one after another.
-use Rattle.std.proofs.Common.{◌≡◌, ◌∙◌, ◌<◌, ◌≤◌, ◌+◌, ◌∷◌, ◌++◌, ℕ, List, [], Option, Some, None, length, take, drop, refl, sym, ap, subst, append_assoc, length-append, arith, get_or}
-use Rattle.std.proofs.Math.Seq.{take-append-add}
-use Rattle.std.proofs.lemmas.List.{append-nil, drop_more, take-append-le, take-append-drop, take_all, take_more}
-use Rattle.std.proofs.lemmas.List.Concat.{flat_map-append}
-use Rattle.std.specs.List.{flat_map}
-use Rattle.std.specs.Prelude.{Err, Ok, OnErr, Result}
-use Rattle.papi_base.specs.Outside.{appended}
-use Rattle.script_runner.specs.Pieces.{IsPartWritten, IsWrittenSoFar}
+use Rattle.script_runner.proofs.Words.{◌≡◌, ◌∙◌, ◌<◌, ◌≤◌, ◌+◌, ◌∷◌, ◌++◌, ℕ, List, [], Option, Some, None, length, take, drop, refl, sym, ap, subst}
+use Rattle.script_runner.proofs.Words.{append_assoc, length-append, arith, get_or, take-append-add, append-nil, drop_more, take-append-le}
+use Rattle.script_runner.proofs.Words.{take-append-drop, take_all, take_more, flat_map-append, flat_map, Err, Ok, OnErr, Result, appended}
+use Rattle.script_runner.proofs.Words.{IsPartWritten, IsWrittenSoFar}
 
 pub appended-append : (o : Option (List ℕ)) (xs ys : List ℕ) → appended (appended o xs) ys ≡ appended o (xs ++ ys)
 appended-append None xs ys = refl

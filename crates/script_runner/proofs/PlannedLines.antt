@@ -1,32 +1,15 @@
 -- The plan of a script's lines, and the native events that they mention.
-use Rattle.std.proofs.Common.{◌≡◌, ◌∙◌, ◌<◌, ◌≤◌, ◌+◌, ◌∷◌, ◌++◌, ℕ, Bool, true, false, List, [], length, map, refl, ap, ap₂, sym, subst, arith, append_assoc, length-append, take, drop, get_or}
-use Rattle.std.proofs.lemmas.List.{append-nil, map-append, take-append-drop, take_all, take_more}
-use Rattle.std.proofs.lemmas.List.Concat.{flat_map-append}
-use Rattle.std.proofs.lemmas.List.Elements.{All-push}
-use Rattle.std.specs.List.{flat_map}
-use Rattle.std.specs.Prelude.{All, Ok, if◌then◌else◌}
-use Rattle.component_table.specs.Catalogs.{CatalogView, looked_up, shape_of}
-use Rattle.call_type.specs.Calls.{call_with, name_of, name_of_call}
+use Rattle.script_runner.proofs.Words.{◌≡◌, ◌∙◌, ◌<◌, ◌≤◌, ◌+◌, ◌∷◌, ◌++◌, ℕ, Bool, true, false, List, [], length, map, refl, ap, ap₂, sym, subst}
+use Rattle.script_runner.proofs.Words.{arith, append_assoc, length-append, take, drop, get_or, append-nil, map-append, take-append-drop, take_all}
+use Rattle.script_runner.proofs.Words.{take_more, flat_map-append, All-push, flat_map, All, Ok, if◌then◌else◌, CatalogView, looked_up, shape_of}
+use Rattle.script_runner.proofs.Words.{call_with, name_of, name_of_call, CallName, THREADS, Native, PlanLine, ReplyLine, Ask, IsGoodFor, IsPlanOf}
+use Rattle.script_runner.proofs.Words.{Planned, ask_of, asks_from, planned_by, reply_lines, among, joined_by, joined-append, Written, ScriptLine}
+use Rattle.script_runner.proofs.Words.{AreFirstOf, IsGoodAsk, asked_of, line_of, lines_of, mentioned_in, reply_lines_of, setting_of, Asked, Call}
+use Rattle.script_runner.proofs.Words.{Line, LineTold, Setting, mentioned_after, mentions_of, mentions_of_call, firsts, others}
 use Rattle.call_type.specs.declared.call.Call.{Call as CallOf}
-use Rattle.call_type.specs.declared.call_name.CallName.{CallName}
-use Rattle.papi_base.specs.declared.limits.TheConstants.{THREADS}
 use Rattle.papi_base.specs.declared.native.EventRef.TheVariants as event
-use Rattle.papi_base.specs.declared.native.Native.{Native}
-use Rattle.thread_registry.specs.declared.runner.plan.PlanLine.{PlanLine}
-use Rattle.thread_registry.specs.declared.runner.result.ReplyLine.{ReplyLine}
-use Rattle.thread_registry.specs.Plans.{Ask, IsGoodFor, IsPlanOf, Planned, ask_of, asks_from, planned_by}
-use Rattle.thread_registry.specs.Runs.{reply_lines}
-use Rattle.postfix_rules.specs.Sameness.{among, joined_by}
-use Rattle.postfix_rules.proofs.Joined.{joined-append}
-use Rattle.script_lines.specs.Calls.{Written}
-use Rattle.script_lines.specs.declared.script.ScriptLine.{ScriptLine}
-use Rattle.script_runner.specs.Resolving.{AreFirstOf, IsGoodAsk, asked_of, line_of, lines_of, mentioned_in, reply_lines_of, setting_of}
-use Rattle.session_model.specs.CallTypes.{Asked, Call}
 use Rattle.call_type.specs.declared.call.Call.TheVariants as call
 use Rattle.call_type.specs.declared.call.Asked.TheVariants as asked
-use Rattle.session_model.specs.declared.line.Line.{Line}
-use Rattle.session_model.specs.World.{LineTold, Setting, mentioned_after, mentions_of, mentions_of_call}
-use Rattle.thread_registry.proofs.Scripts.{firsts, others}
 
 -- ---- native events that join others
 

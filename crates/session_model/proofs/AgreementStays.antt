@@ -1,19 +1,9 @@
 -- Each good call keeps the agreement of the sets with the book.
-use Rattle.std.proofs.Common.{◌≡◌, not, refl, Some, None, Ok}
-use Rattle.std.specs.Option.{ForSome}
-use Rattle.std.proofs.lemmas.List.Elements.{All-replicate}
-use Rattle.std.proofs.lemmas.Bool.{not-false, or_parts}
-use Rattle.papi_base.specs.declared.limits.TheConstants.{MOST_SETS}
-use Rattle.postfix_rules.specs.Presets.{Book, rule_of_event}
-use Rattle.event_sets.specs.AtRest.{Widths, cannot_arm, cannot_take, has_event, is_other, is_plain, new_set, shares_native}
-use Rattle.event_sets.specs.Agreement.{Agrees}
-use Rattle.event_sets.proofs.Agreeing.{added_agrees, armed_agrees, assigned_agrees, emptied_agrees, removed_agrees}
-use Rattle.session_model.specs.CallTypes.{Call}
+use Rattle.session_model.proofs.Words.{◌≡◌, not, refl, Some, None, Ok, ForSome, All-replicate, not-false, or_parts, MOST_SETS, Book, rule_of_event}
+use Rattle.session_model.proofs.Words.{Widths, cannot_arm, cannot_take, has_event, is_other, is_plain, new_set, shares_native, Agrees, added_agrees}
+use Rattle.session_model.proofs.Words.{armed_agrees, assigned_agrees, emptied_agrees, removed_agrees, Call, Account, opening, account_refusal, IsGood}
+use Rattle.session_model.proofs.Words.{AgreementStays, OpeningAgrees}
 use Rattle.call_type.specs.declared.call.Call.TheVariants as call
-use Rattle.session_model.specs.Account.{Account, opening}
-use Rattle.session_model.specs.Step.{account_refusal}
-use Rattle.session_model.specs.Conditions.{IsGood}
-use Rattle.session_model.specs.Keeping.{AgreementStays, OpeningAgrees}
 use Rattle.session_model.proofs.Sets.{Keeps, here, of_faces, step_each, test_fails, to_faces}
 
 keeps_agreement : (book : Book) (shape : Widths) (a : Account) (c : Call) → IsGood book shape c → account_refusal book shape a c ≡ None → Keeps (λ s. Agrees book s.set) book a.past c a.sets

@@ -1,22 +1,11 @@
 -- Of each component at most one set runs.
-use Rattle.std.proofs.lemmas.Bool.Decides.{nat_tests}
-use Rattle.std.proofs.Common.{◌≡◌, ℕ, zero, suc, ◌+◌, ◌≤◌, Bool, true, false, List, [], ◌∷◌, refl, ap, sym, subst, ◌∙◌, arith, slice_set, Option, Some, None, Ok}
+use Rattle.session_model.proofs.Words.{nat_tests, ◌≡◌, ℕ, zero, suc, ◌+◌, ◌≤◌, Bool, true, false, List, [], ◌∷◌, refl, ap, sym, subst, ◌∙◌, arith}
+use Rattle.session_model.proofs.Words.{slice_set, Option, Some, None, Ok, option_map, option_map_or, list_any, eqb-true, or_parts, sum_by-cons, Book}
+use Rattle.session_model.proofs.Words.{component_of_event, Widths, Call, Account, Kept, AreApart, Face, at, change, component_runs, face_of, faces_of}
+use Rattle.session_model.proofs.Words.{free, runs_on, changed_at, changed_by, kept_after, new_kept, sets_after, rows, account_refusal, ApartStays}
+use Rattle.session_model.proofs.Words.{OpeningApart}
 use Rattle.std.specs.Prelude.{count_by, if◌then◌else◌, ◌==◌, ◌&&◌}
-use Rattle.std.specs.Option.{option_map, option_map_or}
-use Rattle.std.specs.List.{list_any}
-use Rattle.std.proofs.lemmas.Bool.{eqb-true, or_parts}
-use Rattle.std.proofs.lemmas.List.Sums.{sum_by-cons}
-use Rattle.postfix_rules.specs.Presets.{Book, component_of_event}
-use Rattle.event_sets.specs.AtRest.{Widths}
-use Rattle.session_model.specs.CallTypes.{Call}
 use Rattle.call_type.specs.declared.call.Call.TheVariants as call
-use Rattle.session_model.specs.Account.{Account, Kept}
-use Rattle.session_model.specs.Bounds.{AreApart}
-use Rattle.session_model.specs.Faces.{Face, at, change, component_runs, face_of, faces_of, free, runs_on}
-use Rattle.session_model.specs.Changes.{changed_at, changed_by, kept_after, new_kept, sets_after}
-use Rattle.session_model.specs.Refusals.{rows}
-use Rattle.session_model.specs.Step.{account_refusal}
-use Rattle.session_model.specs.Keeping.{ApartStays, OpeningApart}
 use Rattle.session_model.proofs.Sets.{at_map, is_stopped, map_put, performed_sets, row_fails, step_has}
 
 bit_le : (b : Bool) → (if b then 1 else 0) ≤ 1

@@ -1,21 +1,9 @@
 -- The world looked at on one thread: by induction on the lines of the script.
-use Rattle.std.proofs.Common.{rules}
+use Rattle.session_model.proofs.Words.{rules, append_assoc, slice_get, slice_set, slice_index_or, unwrap_or, zero, suc, ◌+◌, ◌<◌, Some, nat_tests}
+use Rattle.session_model.proofs.Words.{THREADS, Native, Book, nat_is, Asked, Call, Line, Reply, Widths, Coming, Dry, Account, opening, step}
+use Rattle.session_model.proofs.Words.{account_after, replies_to, notes_to, Setting, World, account_at, turn, mentioned_after, world_after_line}
+use Rattle.session_model.proofs.Words.{calls_asked, is_call, opening_accounts, AccountByThread, NotesByThread, OpensByThread, RepliesByThread}
 use Rattle.std.proofs.Common.{◌≡◌, ◌≢◌, ℕ, Bool, true, false, ◌==◌, ◌&&◌, if◌then◌else◌, List, [], ◌∷◌, ◌++◌, refl, sym, ◌∙◌, ap, arith}
-use Rattle.std.proofs.Common.{append_assoc, slice_get, slice_set, slice_index_or, unwrap_or, zero, suc, ◌+◌, ◌<◌, Some}
-use Rattle.std.proofs.lemmas.Bool.Decides.{nat_tests}
-use Rattle.papi_base.specs.declared.limits.TheConstants.{THREADS}
-use Rattle.papi_base.specs.declared.native.Native.{Native}
-use Rattle.postfix_rules.specs.Presets.{Book}
-use Rattle.postfix_rules.proofs.Equal.{nat_is}
-use Rattle.session_model.specs.CallTypes.{Asked, Call}
-use Rattle.session_model.specs.declared.line.Line.{Line}
-use Rattle.session_model.specs.declared.reply.Reply.{Reply}
-use Rattle.event_sets.specs.AtRest.{Widths}
-use Rattle.papi_base.specs.Streams.{Coming, Dry}
-use Rattle.session_model.specs.Account.{Account, opening}
-use Rattle.session_model.specs.Step.{step, account_after, replies_to, notes_to}
-use Rattle.session_model.specs.World.{Setting, World, account_at, turn, mentioned_after, world_after_line, calls_asked, is_call, opening_accounts}
-use Rattle.session_model.specs.Worlds.{AccountByThread, NotesByThread, OpensByThread, RepliesByThread}
 use Rattle.session_model.proofs.Places.{set_same, set_other}
 
 -- the calls of a line that are the thread's

@@ -1,20 +1,8 @@
 -- Each thread keeps its places, and each set one value of the caller for each event.
-use Rattle.std.proofs.lemmas.Bool.Decides.{nat_tests}
-use Rattle.std.proofs.Common.{◌≡◌, ◌∙◌, ◌∷◌, ℕ, ℤ, pos, List, [], length, refl, sym, ap, arith, Option, None, Ok}
-use Rattle.std.proofs.Math.ListN.{length-set}
-use Rattle.std.proofs.lemmas.List.{length-map, length-replicate}
-use Rattle.std.proofs.lemmas.List.Elements.{All-replicate}
-use Rattle.std.specs.Option.{ForSome}
-use Rattle.papi_base.specs.declared.limits.TheConstants.{MOST_SETS}
-use Rattle.papi_base.specs.declared.occurrence.Occ.{Occ}
-use Rattle.postfix_rules.specs.Presets.{Book, event_value}
-use Rattle.session_model.specs.CallTypes.{Call}
+use Rattle.session_model.proofs.Words.{nat_tests, ◌≡◌, ◌∙◌, ◌∷◌, ℕ, ℤ, pos, List, [], length, refl, sym, ap, arith, Option, None, Ok, length-set}
+use Rattle.session_model.proofs.Words.{length-map, length-replicate, All-replicate, ForSome, MOST_SETS, Occ, Book, event_value, Call, Kept, IsValued}
+use Rattle.session_model.proofs.Words.{measured, sums, values_of, changed_at, kept_after, new_kept, sets_after, OpeningValued, PlacesStay, ValuesStay}
 use Rattle.call_type.specs.declared.call.Call.TheVariants as call
-use Rattle.session_model.specs.Account.{Kept}
-use Rattle.session_model.specs.Bounds.{IsValued}
-use Rattle.session_model.specs.Values.{measured, sums, values_of}
-use Rattle.session_model.specs.Changes.{changed_at, kept_after, new_kept, sets_after}
-use Rattle.session_model.specs.Keeping.{OpeningValued, PlacesStay, ValuesStay}
 use Rattle.session_model.proofs.Sets.{performed_sets, step_each, step_has}
 
 as_many : (f : Kept → Kept) (o : Option ℕ) (sets : List (Option Kept)) → length (changed_at f o sets) ≡ length sets

@@ -1,24 +1,10 @@
 -- Counts in turns and ticks in turns.
-use Rattle.std.proofs.lemmas.Bool.Decides.{nat_tests}
-use Rattle.std.proofs.Common.{◌≡◌, ℕ, zero, suc, ◌+◌, ◌-◌, ◌*◌, ◌/◌, ◌%◌, ◌≤◌, Bool, true, false, cond, ◌==◌, List, [], ◌∷◌, ◌++◌, length}
-use Rattle.std.proofs.Common.{take, drop, refl, ap, ap₂, subst, sym, ◌∙◌, arith, Option, Some, None, take-take}
-use Rattle.std.proofs.lemmas.List.{take-append-drop, drop-take}
-use Rattle.std.proofs.Math.Seq.{take-length}
-use Rattle.std.specs.Prelude.{sum, count_by, if◌then◌else◌}
-use Rattle.std.specs.List.{range_with_len}
-use Rattle.std.proofs.lemmas.List.Sums.{sum_by-append}
-use Rattle.papi_base.specs.declared.occurrence.Occ.{Occ}
-use Rattle.papi_base.specs.declared.native.Native.{Native}
-use Rattle.papi_base.specs.declared.bits.Domain.{Domain}
-use Rattle.papi_base.specs.Weight.{holds, held, weight_of}
-use Rattle.session_model.specs.Account.{Kept, last_after, time_after, clock, end}
-use Rattle.session_model.specs.Counts.{along, in_window, weighed, count}
-use Rattle.multiplex.specs.Turns.{Turns, has_turn, active, weight_in_turn, estimate}
-use Rattle.session_model.specs.Estimates.{total, turns_of}
-use Rattle.session_model.specs.Bounds.{Rises, IsWithin}
-use Rattle.multiplex.proofs.Ticks.{count-cons, range-append}
-use Rattle.multiplex.proofs.Estimates.{estimate_whole}
-use Rattle.session_model.specs.Turning.{CountsPerTick, OneGroupCounts}
+use Rattle.session_model.proofs.Words.{nat_tests, ◌≡◌, ℕ, zero, suc, ◌+◌, ◌-◌, ◌*◌, ◌/◌, ◌%◌, ◌≤◌, Bool, true, false, cond, ◌==◌, List, [], ◌∷◌, ◌++◌}
+use Rattle.session_model.proofs.Words.{length, take, drop, refl, ap, ap₂, subst, sym, ◌∙◌, arith, Option, Some, None, take-take, take-append-drop}
+use Rattle.session_model.proofs.Words.{drop-take, take-length, sum, count_by, if◌then◌else◌, range_with_len, sum_by-append, Occ, Native, Domain}
+use Rattle.session_model.proofs.Words.{holds, held, weight_of, Kept, last_after, time_after, clock, end, along, in_window, weighed, count, Turns}
+use Rattle.session_model.proofs.Words.{has_turn, active, weight_in_turn, estimate, total, turns_of, Rises, IsWithin, count-cons, range-append}
+use Rattle.session_model.proofs.Words.{estimate_whole, CountsPerTick, OneGroupCounts}
 
 -- a weight is at most 255 if the amount is
 pub weight_small : (h e b c : Bool) (x : ℕ) → x ≤ 255 → (if h then (if e then (if b then 0 else 1) else (if c then x else 1)) else 0) ≤ 255

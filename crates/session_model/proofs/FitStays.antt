@@ -1,27 +1,11 @@
 -- Each good call keeps the fitness of the sets.
-use Rattle.std.proofs.Common.{rules}
-use Rattle.std.proofs.Common.{◌≡◌, ◌∙◌, ◌<◌, ℕ, false, not, List, length, refl, sym, ap, arith, Option, Some, None, Ok, is_some}
-use Rattle.std.specs.Prelude.{nat_le}
-use Rattle.std.specs.Option.{ForSome, option_and_then, option_map}
-use Rattle.std.proofs.lemmas.List.Elements.{All-replicate}
-use Rattle.std.proofs.lemmas.Bool.Decides.{nat_tests}
-use Rattle.std.proofs.lemmas.Bool.{not-false, or_parts}
-use Rattle.papi_base.specs.declared.limits.TheConstants.{MOST_SETS}
-use Rattle.papi_base.proofs.Steps.{none_of}
-use Rattle.postfix_rules.specs.Presets.{Book, rule_of_event}
-use Rattle.event_sets.specs.AtRest.{Widths, cannot_arm, cannot_take, clash_with, has_event, is_armed, is_bad_threshold, is_full, is_other, is_plain, shares_native}
-use Rattle.postfix_rules.specs.Fitting.{BookFits}
-use Rattle.event_sets.proofs.Agreeing.{by_number, numbered}
-use Rattle.session_model.specs.CallTypes.{Call}
+use Rattle.session_model.proofs.Words.{rules, ◌≡◌, ◌∙◌, ◌<◌, ℕ, false, not, List, length, refl, sym, ap, arith, Option, Some, None, Ok, is_some}
+use Rattle.session_model.proofs.Words.{nat_le, ForSome, option_and_then, option_map, All-replicate, nat_tests, not-false, or_parts, MOST_SETS}
+use Rattle.session_model.proofs.Words.{none_of, Book, rule_of_event, Widths, cannot_arm, cannot_take, clash_with, has_event, is_armed}
+use Rattle.session_model.proofs.Words.{is_bad_threshold, is_full, is_other, is_plain, shares_native, BookFits, by_number, numbered, Call, Account}
+use Rattle.session_model.proofs.Words.{Kept, opening, AllValued, IsGood, face_of, faces_of, AreFit, IsFit, IsShape, is_multiplexed, rows}
+use Rattle.session_model.proofs.Words.{account_refusal, FitStays, OpeningFits}
 use Rattle.call_type.specs.declared.call.Call.TheVariants as call
-use Rattle.session_model.specs.Account.{Account, Kept, opening}
-use Rattle.session_model.specs.Bounds.{AllValued}
-use Rattle.session_model.specs.Conditions.{IsGood}
-use Rattle.session_model.specs.Faces.{face_of, faces_of}
-use Rattle.session_model.specs.Fitness.{AreFit, IsFit, IsShape}
-use Rattle.session_model.specs.Refusals.{is_multiplexed, rows}
-use Rattle.session_model.specs.Step.{account_refusal}
-use Rattle.session_model.specs.Keeping.{FitStays, OpeningFits}
 use Rattle.session_model.proofs.Counted.{opening_valued, values_stay}
 use Rattle.session_model.proofs.Fits.{added_fit, armed_fit, assigned_fit, domain_fit, emptied_fit, multiplexed_fit, new_fit, removed_fit}
 use Rattle.session_model.proofs.Sets.{Each, Keeps, at_map, here, row_fails, step_each, test_fails}

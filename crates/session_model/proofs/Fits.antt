@@ -1,31 +1,15 @@
 -- A set goes on to fit, whichever way a call changes it.
-use Rattle.std.proofs.Common.{rules}
-use Rattle.std.proofs.Common.{◌≡◌, ◌∙◌, ◌∷◌, ◌^◌, ◌<◌, ◌≤◌, ◌==◌, ◌⊎◌, inl, not, ℕ, zero, suc, true, false, List, []}
-use Rattle.std.proofs.Common.{length, refl, sym, ap, subst, arith, slice_get, unwrap_or, Option, Some, None, is_some}
-use Rattle.std.specs.Prelude.{All, IsSomeAnd}
-use Rattle.std.specs.Option.{ForSome, option_map, option_map_or}
-use Rattle.std.proofs.lemmas.List.Elements.{All-push}
-use Rattle.std.proofs.lemmas.Bool.Decides.{nat_tests}
-use Rattle.std.proofs.lemmas.Bool.{or_parts}
-use Rattle.papi_base.specs.declared.native.EventRef.{EventRef}
+use Rattle.session_model.proofs.Words.{rules, ◌≡◌, ◌∙◌, ◌∷◌, ◌^◌, ◌<◌, ◌≤◌, ◌==◌, ◌⊎◌, inl, not, ℕ, zero, suc, true, false, List, [], length, refl}
+use Rattle.session_model.proofs.Words.{sym, ap, subst, arith, slice_get, unwrap_or, Option, Some, None, is_some, All, IsSomeAnd, ForSome, option_map}
+use Rattle.session_model.proofs.Words.{option_map_or, All-push, nat_tests, or_parts, EventRef, Native, none_of, DerivedView, IsDerived, Book}
+use Rattle.session_model.proofs.Words.{component_of_event, entry, natives_of_event, rule_of_event, Conflict, add_refusal, AtRest, Widths, cannot_take}
+use Rattle.session_model.proofs.Words.{clash_with, emptied, has_event, is_armed, is_bad_domain, is_bad_slice, is_bad_threshold, is_full, is_other}
+use Rattle.session_model.proofs.Words.{is_plain, least_width, new_set, shares_native, widths_at, with_event, with_threshold, without_event, Agrees}
+use Rattle.session_model.proofs.Words.{BookFits, EventFits, Fits, IsHeld, set_view, added_agrees, armed_agrees, assigned_agrees, by_number}
+use Rattle.session_model.proofs.Words.{emptied_agrees, event_owned, held_component, held_have_natives, numbered, removed_agrees, armed_sound}
+use Rattle.session_model.proofs.Words.{assigned_sound, sliced_sound, removed_all, added_is_sound, emptied_is_sound, few_counters, new_is_sound}
+use Rattle.session_model.proofs.Words.{removed_is_sound, with_domain_is_sound, IsFit, IsShape}
 use Rattle.papi_base.specs.declared.native.EventRef.TheVariants as event
-use Rattle.papi_base.specs.declared.native.Native.{Native}
-use Rattle.papi_base.proofs.Steps.{none_of}
-use Rattle.postfix_rules.specs.Rules.{DerivedView, IsDerived}
-use Rattle.postfix_rules.specs.Presets.{Book, component_of_event, entry, natives_of_event, rule_of_event}
-use Rattle.event_sets.specs.declared.refusal.Refusal.TheVariants.{Conflict}
-use Rattle.event_sets.specs.Adding.{add_refusal}
-use Rattle.event_sets.specs.AtRest.{AtRest, Widths, cannot_take, clash_with, emptied, has_event, is_armed, is_bad_domain, is_bad_slice}
-use Rattle.event_sets.specs.AtRest.{is_bad_threshold, is_full, is_other, is_plain, least_width, new_set, shares_native, widths_at}
-use Rattle.event_sets.specs.AtRest.{with_event, with_threshold, without_event}
-use Rattle.event_sets.specs.Agreement.{Agrees}
-use Rattle.postfix_rules.specs.Fitting.{BookFits, EventFits, Fits, IsHeld}
-use Rattle.event_sets.specs.Sets.{set_view}
-use Rattle.event_sets.proofs.Agreeing.{added_agrees, armed_agrees, assigned_agrees, by_number, emptied_agrees, event_owned, held_component, held_have_natives, numbered, removed_agrees}
-use Rattle.event_sets.proofs.Kept.{armed_sound, assigned_sound, sliced_sound}
-use Rattle.event_sets.proofs.Removed.{removed_all}
-use Rattle.event_sets.proofs.Sound.{added_is_sound, emptied_is_sound, few_counters, new_is_sound, removed_is_sound, with_domain_is_sound}
-use Rattle.session_model.specs.Fitness.{IsFit, IsShape}
 
 abbrev Fitting : Widths → Option ℕ → ℕ → Type 0
 Fitting shape component t = (t ≡ 0) ⊎ ((256 ≤ t) × (t < 2 ^ least_width (widths_at shape component)))

@@ -10,3 +10,4 @@ pub mod Counted
 pub mod Merging
 pub mod Fits
 pub mod FitStays
+pub mod Words

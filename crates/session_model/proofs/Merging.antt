@@ -1,32 +1,14 @@
 -- The replies of the threads, merged in the script's order.
-use Rattle.std.proofs.Common.{◌≡◌, ◌≢◌, ◌∙◌, ◌∷◌, ◌++◌, ◌+◌, ◌*◌, ◌<◌, ◌==◌, inl, inr, ℕ, zero, suc, Bool, true, false, List, [], drop, length}
-use Rattle.std.proofs.Common.{map, refl, sym, ap, ap₂, subst, arith, slice_get, slice_index_or, slice_set, unwrap_or, Option, Some, Result}
-use Rattle.std.specs.Prelude.{All, if◌then◌else◌}
-use Rattle.std.proofs.Math.ListN.{length-set}
-use Rattle.std.proofs.lemmas.Bool.{cases_eq}
-use Rattle.std.proofs.lemmas.Bool.Decides.{nat_tests}
-use Rattle.std.proofs.lemmas.List.{get_or-set_same, get_or-set_other}
-use Rattle.std.proofs.lemmas.List.Elements.{All-tail}
-use Rattle.papi_base.specs.Streams.{Dry}
-use Rattle.papi_base.specs.declared.code.Code.{Code}
-use Rattle.papi_base.specs.declared.code.Code.TheVariants.{Einval, Eisrun}
-use Rattle.papi_base.specs.declared.native.EventRef.{EventRef}
-use Rattle.papi_base.specs.declared.native.Native.{Native}
-use Rattle.papi_base.proofs.Steps.{get_at}
-use Rattle.postfix_rules.specs.Presets.{Book}
-use Rattle.event_sets.specs.declared.refusal.Refusal.{Refusal}
-use Rattle.event_sets.specs.AtRest.{Widths}
-use Rattle.session_model.specs.CallTypes.{Asked, Call}
+use Rattle.session_model.proofs.Words.{◌≡◌, ◌≢◌, ◌∙◌, ◌∷◌, ◌++◌, ◌+◌, ◌*◌, ◌<◌, ◌==◌, inl, inr, ℕ, zero, suc, Bool, true, false, List, [], drop}
+use Rattle.session_model.proofs.Words.{length, map, refl, sym, ap, ap₂, subst, arith, slice_get, slice_index_or, slice_set, unwrap_or, Option, Some}
+use Rattle.session_model.proofs.Words.{Result, All, if◌then◌else◌, length-set, cases_eq, nat_tests, get_or-set_same, get_or-set_other, All-tail, Dry}
+use Rattle.session_model.proofs.Words.{Code, Einval, Eisrun, EventRef, Native, get_at, Book, Refusal, Widths, Asked, Call, Line, Account, opening}
+use Rattle.session_model.proofs.Words.{first_of, row, done, StepOutcome, performed, replies_to, step, unless, Setting, account_at, answer, calls_at}
+use Rattle.session_model.proofs.Words.{listed_from, mentioned_after, turn, world_after_line, Ahead, IsAhead, MergesToWorld, RegisteredFollows}
+use Rattle.session_model.proofs.Words.{ahead_after, bits_from, merged_reply, next_reply, registered_after}
 use Rattle.call_type.specs.declared.call.Call.TheVariants as call
 use Rattle.call_type.specs.declared.call.Asked.TheVariants as asked
-use Rattle.session_model.specs.declared.line.Line.{Line}
 use Rattle.session_model.specs.declared.reply.Body.TheVariants as body
-use Rattle.session_model.specs.Account.{Account, opening}
-use Rattle.session_model.specs.Refusals.{first_of, row}
-use Rattle.session_model.specs.Replies.{done}
-use Rattle.session_model.specs.Step.{StepOutcome, performed, replies_to, step, unless}
-use Rattle.session_model.specs.World.{Setting, account_at, answer, calls_at, listed_from, mentioned_after, turn, world_after_line}
-use Rattle.session_model.specs.Worlds.{Ahead, IsAhead, MergesToWorld, RegisteredFollows, ahead_after, bits_from, merged_reply, next_reply, registered_after}
 use Rattle.session_model.proofs.Sets.{map_put}
 
 -- ---- a thread's registration

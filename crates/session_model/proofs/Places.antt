@@ -1,8 +1,6 @@
 -- Items under numbers, if one is put anew.
-use Rattle.std.proofs.Common.{◌≡◌, ◌≢◌, ℕ, List, length, sym, ◌∙◌, ap, arith, slice_get, slice_set, Some}
-use Rattle.std.proofs.lemmas.List.{get_or-set_same, get_or-set_other}
-use Rattle.std.proofs.lemmas.Option.{slice_get_within, slice_get-get_or, get_or_from_slice_get, slice_get_read}
-use Rattle.std.proofs.Math.ListN.{length-set}
+use Rattle.session_model.proofs.Words.{◌≡◌, ◌≢◌, ℕ, List, length, sym, ◌∙◌, ap, arith, slice_get, slice_set, Some, get_or-set_same, get_or-set_other}
+use Rattle.session_model.proofs.Words.{slice_get_within, slice_get-get_or, get_or_from_slice_get, slice_get_read, length-set}
 
 pub set_same : {X : Type 0} (xs : List X) (i : ℕ) (x y : X) → slice_get xs i ≡ Some x → slice_get (slice_set xs i y) i ≡ Some y
 set_same xs i x y e =

@@ -1,13 +1,7 @@
 -- One occurrence more: what it does to what sets weigh, and to the time.
-use Rattle.std.proofs.lemmas.Bool.Decides.{nat_tests}
-use Rattle.std.proofs.Common.{◌≡◌, ℕ, suc, ◌+◌, ◌≤◌, true, false, List, [], ◌∷◌, ◌++◌, length, refl, ap, ◌∙◌, arith, Option, Some, None, length-drop}
-use Rattle.std.specs.Prelude.{sum}
-use Rattle.std.proofs.lemmas.List.{drop-append-le, take-append-le}
-use Rattle.std.proofs.Math.Seq.{take-length}
-use Rattle.std.proofs.lemmas.List.Sums.{sum_by-append}
-use Rattle.papi_base.specs.declared.occurrence.Occ.{Occ}
-use Rattle.session_model.specs.Account.{Kept, last_after, time_after, clock}
-use Rattle.session_model.specs.Counts.{along, weighed}
+use Rattle.session_model.proofs.Words.{nat_tests, ◌≡◌, ℕ, suc, ◌+◌, ◌≤◌, true, false, List, [], ◌∷◌, ◌++◌, length, refl, ap, ◌∙◌, arith, Option, Some}
+use Rattle.session_model.proofs.Words.{None, length-drop, sum, drop-append-le, take-append-le, take-length, sum_by-append, Occ, Kept, last_after}
+use Rattle.session_model.proofs.Words.{time_after, clock, along, weighed}
 
 pub along-append : (weigh : Option Occ → Occ → ℕ) (before : Option Occ) (past : List Occ) (o : Occ) → along weigh before (past ++ o ∷ []) ≡ along weigh before past ++ weigh (last_after before past) o ∷ []
 along-append weigh before [] o = refl

@@ -1,24 +1,11 @@
 -- The places of sets, and what holds of each set after a call.
-use Rattle.std.proofs.Common.{arith}
-use Rattle.std.proofs.lemmas.Bool.Decides.{nat_tests}
-use Rattle.std.proofs.Common.{◌≡◌, ℕ, zero, suc, ◌+◌, Bool, false, List, [], ◌∷◌, map, refl, sym, ◌∙◌, ap, subst, slice_get, slice_set, Option, Some, None}
-use Rattle.std.specs.Prelude.{All}
-use Rattle.std.specs.Option.{option_map, option_map_or, ForSome}
-use Rattle.std.proofs.lemmas.List.Elements.{All-set}
+use Rattle.session_model.proofs.Words.{arith, nat_tests, ◌≡◌, ℕ, zero, suc, ◌+◌, Bool, false, List, [], ◌∷◌, map, refl, sym, ◌∙◌, ap, subst}
+use Rattle.session_model.proofs.Words.{slice_get, slice_set, Option, Some, None, All, option_map, option_map_or, ForSome, All-set, Book, Refusal}
+use Rattle.session_model.proofs.Words.{AtRest, Widths, by_number, numbered, Occ, passed_over, Call, Account, Kept, Face, at, change, face_of}
+use Rattle.session_model.proofs.Words.{faces_of, free, has, runs, first_of, rows, changed_at, changed_by, kept_after, new_kept, sets_after}
+use Rattle.session_model.proofs.Words.{account_refusal, performed, step, unless}
 use Rattle.session_model.proofs.Fits.{get_some}
-use Rattle.postfix_rules.specs.Presets.{Book}
-use Rattle.event_sets.specs.declared.refusal.Refusal.{Refusal}
-use Rattle.event_sets.specs.AtRest.{AtRest, Widths}
-use Rattle.event_sets.proofs.Agreeing.{by_number, numbered}
-use Rattle.papi_base.specs.declared.occurrence.Occ.{Occ}
-use Rattle.papi_base.proofs.Steps.{passed_over}
-use Rattle.session_model.specs.CallTypes.{Call}
 use Rattle.call_type.specs.declared.call.Call.TheVariants as call
-use Rattle.session_model.specs.Account.{Account, Kept}
-use Rattle.session_model.specs.Faces.{Face, at, change, face_of, faces_of, free, has, runs}
-use Rattle.session_model.specs.Refusals.{first_of, rows}
-use Rattle.session_model.specs.Changes.{changed_at, changed_by, kept_after, new_kept, sets_after}
-use Rattle.session_model.specs.Step.{account_refusal, performed, step, unless}
 
 -- if a call is not refused, no row of its table comes
 pub row_fails : (rs : List (Bool × Refusal)) (i : ℕ) → first_of rs ≡ None → option_map_or (λ r. r.0) (slice_get rs i) false ≡ false

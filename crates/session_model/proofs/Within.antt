@@ -1,21 +1,9 @@
 -- Windows lie in the past, and stamps rise.
-use Rattle.std.proofs.lemmas.Bool.Decides.{nat_tests}
-use Rattle.std.proofs.Common.{◌≤◌, ◌+◌, ℕ, Bool, List, [], ◌∷◌, ◌++◌, length, take, min, arith, append_assoc, length-append, Option, Some, None}
-use Rattle.std.specs.Prelude.{if◌then◌else◌}
-use Rattle.std.specs.Option.{ForSome}
-use Rattle.std.proofs.lemmas.List.{take-append-drop}
-use Rattle.std.proofs.lemmas.List.Elements.{All-replicate}
-use Rattle.papi_base.specs.declared.limits.TheConstants.{MOST_SETS}
-use Rattle.papi_base.specs.declared.occurrence.Occ.{Occ}
-use Rattle.postfix_rules.specs.Presets.{Book}
-use Rattle.event_sets.specs.AtRest.{Widths}
-use Rattle.session_model.specs.CallTypes.{Call}
+use Rattle.session_model.proofs.Words.{nat_tests, ◌≤◌, ◌+◌, ℕ, Bool, List, [], ◌∷◌, ◌++◌, length, take, min, arith, append_assoc, length-append}
+use Rattle.session_model.proofs.Words.{Option, Some, None, if◌then◌else◌, ForSome, take-append-drop, All-replicate, MOST_SETS, Occ, Book, Widths}
+use Rattle.session_model.proofs.Words.{Call, Account, Kept, last_after, time_after, zeroed, AllWithin, IsWithin, Rises, kept_after, new_kept}
+use Rattle.session_model.proofs.Words.{sets_after, performed, step, OpeningWithin, RiseStays, WithinStays}
 use Rattle.call_type.specs.declared.call.Call.TheVariants as call
-use Rattle.session_model.specs.Account.{Account, Kept, last_after, time_after, zeroed}
-use Rattle.session_model.specs.Bounds.{AllWithin, IsWithin, Rises}
-use Rattle.session_model.specs.Changes.{kept_after, new_kept, sets_after}
-use Rattle.session_model.specs.Step.{performed, step}
-use Rattle.session_model.specs.Keeping.{OpeningWithin, RiseStays, WithinStays}
 use Rattle.session_model.proofs.Sets.{sets_each, step_has}
 
 end_bounds : (now : ℕ) (b : Bool) (from to : ℕ) → from ≤ to → to ≤ now → (from ≤ (if b then now else to)) × ((if b then now else to) ≤ now)

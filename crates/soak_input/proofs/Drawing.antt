@@ -1,16 +1,8 @@
 -- What is drawn, and what a source that draws it has left.
-use Rattle.std.proofs.Common.{◌≡◌, ◌∙◌, ◌<◌, ◌≤◌, ◌+◌, ◌-◌, ◌*◌, ◌/◌, ◌%◌, ◌∷◌, ◌++◌, ℕ, zero, suc, false, [], Ok, length, take, drop, sym, ap, ap₂, arith, append_assoc, length-append}
-use Rattle.std.proofs.Math.Nat.{mod-add-mod}
-use Rattle.std.proofs.Math.Seq.{take-append-add, take-append_seam}
-use Rattle.std.proofs.lemmas.List.{drop-drop, drop_all, length-take-le, take-append-drop, take-append-le}
-use Rattle.std.specs.Fmt.{digit_glyph}
-use Rattle.papi_base.specs.Outside.{Gives}
-use Rattle.papi_base.proofs.Growing.{both}
-use Rattle.soak_input.specs.Generator.{next}
-use Rattle.soak_input.specs.Occurrences.{fifth, occurrence_after, occurrences_after}
-use Rattle.soak_input.specs.Source.{left_text, well_ended}
-use Rattle.soak_input.specs.Streams.{Text, line_text, lines_text, six_digits, two_digits}
-use Rattle.soak_input.specs.declared.occurrence.Occurrence.{Occurrence}
+use Rattle.soak_input.proofs.Words.{◌≡◌, ◌∙◌, ◌<◌, ◌≤◌, ◌+◌, ◌-◌, ◌*◌, ◌/◌, ◌%◌, ◌∷◌, ◌++◌, ℕ, zero, suc, false, [], Ok, length, take, drop, sym, ap}
+use Rattle.soak_input.proofs.Words.{ap₂, arith, append_assoc, length-append, mod-add-mod, take-append-add, take-append_seam, drop-drop, drop_all}
+use Rattle.soak_input.proofs.Words.{length-take-le, take-append-drop, take-append-le, digit_glyph, Gives, both, next, fifth, occurrence_after}
+use Rattle.soak_input.proofs.Words.{occurrences_after, left_text, well_ended, Text, line_text, lines_text, six_digits, two_digits, Occurrence}
 
 -- ---- the generator
 

@@ -1,3 +1,4 @@
 pub mod Drawing
 pub mod Pieces
 pub mod Sums
+pub mod Words

@@ -1,12 +1,7 @@
 -- Texts that grow at their end, piece by piece.
-use Rattle.std.proofs.Common.{◌≡◌, ◌∙◌, ◌<◌, ◌≤◌, ◌+◌, ◌∷◌, ◌++◌, ℕ, ℤ, suc, List, [], length, take, sym, ap, arith, add-zero, append_assoc, get_or}
-use Rattle.std.proofs.lemmas.List.{append-nil, length-take-le, take_all, take_more}
-use Rattle.std.specs.Fmt.{signed_decimal}
-use Rattle.std.specs.Prelude.{codes, decimal}
-use Rattle.papi_base.proofs.Growing.{both}
-use Rattle.soak_input.specs.Streams.{Text}
-use Rattle.soak_input.specs.Summary.{sum_of, summary_text, thread_line, thread_lines}
-use Rattle.soak_input.specs.declared.summary.ThreadTotal.{ThreadTotal}
+use Rattle.soak_input.proofs.Words.{◌≡◌, ◌∙◌, ◌<◌, ◌≤◌, ◌+◌, ◌∷◌, ◌++◌, ℕ, ℤ, suc, List, [], length, take, sym, ap, arith, add-zero, append_assoc}
+use Rattle.soak_input.proofs.Words.{get_or, append-nil, length-take-le, take_all, take_more, signed_decimal, codes, decimal, both, Text, sum_of}
+use Rattle.soak_input.proofs.Words.{summary_text, thread_line, thread_lines, ThreadTotal}
 
 -- three pieces, from nothing on
 pub three : (start a b after u v w : Text) → start ≡ [] → a ≡ start ++ u → b ≡ a ++ v → after ≡ b ++ w → after ≡ u ++ (v ++ w)

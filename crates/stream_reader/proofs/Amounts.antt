@@ -1,16 +1,8 @@
 -- Amounts of one to three digits.
-use Rattle.std.proofs.Common.{◌≡◌, ◌∙◌, ◌+◌, ◌-◌, ◌*◌, ◌≤◌, ℕ, Bool, true, false, List, Option, Some, None, IfSome, length, get_or, refl, sym, ap, arith}
+use Rattle.stream_reader.proofs.Words.{◌≡◌, ◌∙◌, ◌+◌, ◌-◌, ◌*◌, ◌≤◌, ℕ, Bool, true, false, List, Option, Some, None, IfSome, length, get_or, refl}
+use Rattle.stream_reader.proofs.Words.{sym, ap, arith, list_all, digit_value, digits_value, and_parts, leb-true, decimal_in, is_digit, Field}
+use Rattle.stream_reader.proofs.Words.{decimal_or_256, piece, has_form, IsAmount, IsAmountOf}
 use Rattle.std.specs.Prelude.{if◌then◌else◌, nat_le}
-use Rattle.std.specs.List.{list_all}
-use Rattle.std.specs.Char.{digit_value}
-use Rattle.std.specs.Str.Parse.{digits_value}
-use Rattle.std.proofs.lemmas.Bool.{and_parts, leb-true}
-use Rattle.papi_base.specs.Numerals.{decimal_in, is_digit}
-use Rattle.stream_reader.specs.declared.field.Field.{Field}
-use Rattle.stream_reader.specs.ByteTables.{decimal_or_256}
-use Rattle.stream_reader.specs.Digits.{piece}
-use Rattle.stream_reader.specs.Fields.{has_form}
-use Rattle.stream_reader.specs.CommonLines.{IsAmount, IsAmountOf}
 use Rattle.stream_reader.proofs.DecimalBytes.{IsDigit, decimal-of, digit, digits-inner, not-zero}
 use Rattle.stream_reader.proofs.FirstItems.{taken}
 

@@ -1,21 +1,12 @@
 -- The stamps of a stream rise, and it has no more occurrences than there are stamps.
-use Rattle.std.proofs.Common.{◌≡◌, ◌∙◌, ◌+◌, ◌<◌, ◌≤◌, ◌==◌, ◌&&◌, ◌∷◌, ℕ, Bool, true, false, List, [], Option, Some, None, length}
-use Rattle.std.proofs.Common.{refl, sym, ap, subst, arith, nat_lt, nat_le, codes, bytes_eq, IfSome}
-use Rattle.std.specs.Prelude.{if◌then◌else◌, cond}
-use Rattle.std.specs.List.{list_all, slice_split, onto_first}
-use Rattle.std.specs.Option.{option_map, option_map_or}
-use Rattle.std.specs.Str.Parse.{digits_value}
-use Rattle.std.proofs.lemmas.Bool.{and_parts, leb-true, ltb-false, ltb-true, lt-ltb, eqb-true}
-use Rattle.papi_base.specs.Numerals.{decimal_in, flag_bit, hex_in, is_decimal, is_hex_digit, is_numeral}
-use Rattle.papi_base.specs.declared.occurrence.Occ.{Occ}
+use Rattle.stream_reader.proofs.Words.{◌≡◌, ◌∙◌, ◌+◌, ◌<◌, ◌≤◌, ◌==◌, ◌&&◌, ◌∷◌, ℕ, Bool, true, false, List, [], Option, Some, None, length, refl}
+use Rattle.stream_reader.proofs.Words.{sym, ap, subst, arith, nat_lt, nat_le, codes, bytes_eq, IfSome, if◌then◌else◌, cond, list_all, slice_split}
+use Rattle.stream_reader.proofs.Words.{onto_first, option_map, option_map_or, digits_value, and_parts, leb-true, ltb-false, ltb-true, lt-ltb}
+use Rattle.stream_reader.proofs.Words.{eqb-true, decimal_in, flag_bit, hex_in, is_decimal, is_hex_digit, is_numeral, Occ, LAST_STAMP, Line, LineStart}
+use Rattle.stream_reader.proofs.Words.{Judgement, Bad, Skipped, Version, Occurs, field, fields_judged, fields_of, given, is_above, is_next_stamp}
+use Rattle.stream_reader.proofs.Words.{is_skipped, judged, line_text, mode_of, occ_of, stamp_of, text_judged, without_return, IsStart, after}
+use Rattle.stream_reader.proofs.Words.{least_stamp, line_passed}
 use Rattle.papi_base.specs.declared.occurrence.LineCause.TheVariants as cause
-use Rattle.papi_base.specs.declared.limits.TheConstants.{LAST_STAMP}
-use Rattle.stream_reader.specs.Lines.{Line}
-use Rattle.stream_reader.specs.declared.line.LineStart.{LineStart}
-use Rattle.stream_reader.specs.declared.line.Judgement.{Judgement}
-use Rattle.stream_reader.specs.declared.line.Judgement.TheVariants.{Bad, Skipped, Version, Occurs}
-use Rattle.stream_reader.specs.Judged.{field, fields_judged, fields_of, given, is_above, is_next_stamp, is_skipped, judged, line_text, mode_of, occ_of, stamp_of, text_judged, without_return}
-use Rattle.stream_reader.specs.Occurs.{IsStart, after, least_stamp, line_passed}
 use Rattle.stream_reader.proofs.FirstItems.{whole}
 
 -- ---- how long fields are

@@ -1,11 +1,8 @@
 -- The tables of bytes, place by place.
-use Rattle.std.proofs.Common.{◌≡◌, ◌<◌, ◌≤◌, ◌==◌, ◌&&◌, ℕ, zero, suc, Bool, true, false, inl, inr, slice_index, refl, arith}
+use Rattle.stream_reader.proofs.Words.{◌≡◌, ◌<◌, ◌≤◌, ◌==◌, ◌&&◌, ℕ, zero, suc, Bool, true, false, inl, inr, slice_index, refl, arith, digit_value}
+use Rattle.stream_reader.proofs.Words.{and_parts, cases_lt, eqb-true, leb-true, ltb-true, is_digit, is_hex_digit, DECIMALS, DIGITS, MODES}
+use Rattle.stream_reader.proofs.Words.{decimal_or_256, digit_or_256, mode_or_256}
 use Rattle.std.specs.Prelude.{if◌then◌else◌, nat_le}
-use Rattle.std.specs.Char.{digit_value}
-use Rattle.std.proofs.lemmas.Bool.{and_parts, cases_lt, eqb-true, leb-true, ltb-true}
-use Rattle.papi_base.specs.Numerals.{is_digit, is_hex_digit}
-use Rattle.stream_reader.specs.declared.byte_tables.TheConstants.{DECIMALS, DIGITS, MODES}
-use Rattle.stream_reader.specs.ByteTables.{decimal_or_256, digit_or_256, mode_or_256}
 use Rattle.stream_reader.proofs.DecimalBytes.{digit}
 
 -- the test of the places below n, which computes

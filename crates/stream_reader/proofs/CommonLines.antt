@@ -1,23 +1,11 @@
 -- A line of the common form is judged to be its occurrence, and one that is empty or a comment to be skipped.
-use Rattle.std.proofs.Common.{◌≡◌, ◌∙◌, ◌+◌, ◌<◌, ◌≤◌, ◌++◌, ◌∷◌, ◌==◌, ◌&&◌, ℕ, zero, suc, Bool, true, false, List, [], Some, length, take, get_or, refl, sym, ap, subst, arith, add-one, eq-eqb, inl, inr}
+use Rattle.stream_reader.proofs.Words.{◌≡◌, ◌∙◌, ◌+◌, ◌<◌, ◌≤◌, ◌++◌, ◌∷◌, ◌==◌, ◌&&◌, ℕ, zero, suc, Bool, true, false, List, [], Some, length, take}
+use Rattle.stream_reader.proofs.Words.{get_or, refl, sym, ap, subst, arith, add-one, eq-eqb, inl, inr, drop-cons, length-take-le, take-append-drop}
+use Rattle.stream_reader.proofs.Words.{le-ltb, nat_tests, is_digit, Occ, LineStart, Judgement, Bad, Occurs, Skipped, CommonLine, fields_judged}
+use Rattle.stream_reader.proofs.Words.{fields_of, is_next_stamp, is_skipped, judged, occurrence_judged, text_judged, without_return, occurrence_on}
+use Rattle.stream_reader.proofs.Words.{BeginsSkipped, BeginsWith, HoldsLine, FindsNewline, IsOneLine, ReaderView}
 use Rattle.std.specs.Prelude.{codes, bytes_eq, if◌then◌else◌}
-use Rattle.std.proofs.Math.Seq.{drop-cons}
-use Rattle.std.proofs.lemmas.List.{length-take-le, take-append-drop}
-use Rattle.std.proofs.lemmas.Bool.{le-ltb}
-use Rattle.std.proofs.lemmas.Bool.Decides.{nat_tests}
-use Rattle.papi_base.specs.Numerals.{is_digit}
 use Rattle.papi_base.specs.declared.occurrence.LineCause.TheVariants as cause
-use Rattle.papi_base.specs.declared.occurrence.Occ.{Occ}
-use Rattle.stream_reader.specs.declared.line.LineStart.{LineStart}
-use Rattle.stream_reader.specs.declared.line.Judgement.{Judgement}
-use Rattle.stream_reader.specs.declared.line.Judgement.TheVariants.{Bad, Occurs, Skipped}
-use Rattle.stream_reader.specs.declared.common_line.CommonLine.{CommonLine}
-use Rattle.stream_reader.specs.Judged.{fields_judged, fields_of, is_next_stamp, is_skipped, judged, occurrence_judged, text_judged, without_return}
-use Rattle.stream_reader.specs.Fields.{occurrence_on}
-use Rattle.stream_reader.specs.CommonLines.{BeginsSkipped, BeginsWith, HoldsLine}
-use Rattle.stream_reader.specs.Inside.{FindsNewline}
-use Rattle.stream_reader.specs.Lines.{IsOneLine}
-use Rattle.stream_reader.specs.Reader.{ReaderView}
 use Rattle.stream_reader.proofs.Judging.{judged-some}
 
 record IsLine (t : List ℕ) : Type 0 where

@@ -1,10 +1,6 @@
 -- Components of one and of two digits.
-use Rattle.std.proofs.Common.{◌≡◌, ◌∙◌, ◌+◌, ◌-◌, ◌≤◌, ℕ, true, List, Some, length, take, get_or, refl, sym, ap, arith}
-use Rattle.std.specs.List.{list_all}
-use Rattle.std.specs.Str.Parse.{digits_value}
-use Rattle.papi_base.specs.Numerals.{is_digit}
-use Rattle.stream_reader.specs.Fields.{has_form}
-use Rattle.stream_reader.specs.CommonLines.{BeginsWithComponent}
+use Rattle.stream_reader.proofs.Words.{◌≡◌, ◌∙◌, ◌+◌, ◌-◌, ◌≤◌, ℕ, true, List, Some, length, take, get_or, refl, sym, ap, arith, list_all}
+use Rattle.stream_reader.proofs.Words.{digits_value, is_digit, has_form, BeginsWithComponent}
 use Rattle.stream_reader.proofs.DecimalBytes.{decimal-of, digit, digits-inner, not-zero}
 use Rattle.stream_reader.proofs.FirstItems.{taken}
 

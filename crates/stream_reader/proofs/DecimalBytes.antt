@@ -1,13 +1,7 @@
 -- Bytes that are decimal digits, and those that a text begins with.
-use Rattle.std.proofs.Common.{◌≡◌, ◌-◌, ◌≤◌, ◌==◌, ◌||◌, ◌∷◌, ℕ, true, false, not, List, [], Some, length, get_or, refl, arith, nat_lt}
-use Rattle.std.specs.List.{list_all}
-use Rattle.std.specs.Char.{digit_value}
-use Rattle.std.specs.Str.Parse.{digits_value}
-use Rattle.std.proofs.lemmas.Bool.{and_parts, le-leb}
-use Rattle.std.proofs.lemmas.Bool.Decides.{nat_tests}
-use Rattle.papi_base.specs.Numerals.{decimal_in, is_decimal, is_digit, is_numeral}
-use Rattle.stream_reader.specs.Fields.{has_form}
-use Rattle.stream_reader.specs.CommonLines.{is_inner}
+use Rattle.stream_reader.proofs.Words.{◌≡◌, ◌-◌, ◌≤◌, ◌==◌, ◌||◌, ◌∷◌, ℕ, true, false, not, List, [], Some, length, get_or, refl, arith, nat_lt}
+use Rattle.stream_reader.proofs.Words.{list_all, digit_value, digits_value, and_parts, le-leb, nat_tests, decimal_in, is_decimal, is_digit}
+use Rattle.stream_reader.proofs.Words.{is_numeral, has_form, is_inner}
 
 pub record IsDigit (b : ℕ) : Type 0 where
   pub test : is_digit b ≡ true

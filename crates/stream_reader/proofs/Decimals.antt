@@ -1,12 +1,8 @@
 -- The number of a field of digits.
-use Rattle.std.proofs.Common.{◌≡◌, ◌∙◌, ◌<◌, ◌≤◌, ◌==◌, ◌&&◌, ◌||◌, ◌∷◌, ℕ, Bool, true, false, not, List, [], Option, Some}
-use Rattle.std.proofs.Common.{None, length, get_or, refl, sym, arith, IfSome, nat_le, nat_lt}
+use Rattle.stream_reader.proofs.Words.{◌≡◌, ◌∙◌, ◌<◌, ◌≤◌, ◌==◌, ◌&&◌, ◌||◌, ◌∷◌, ℕ, Bool, true, false, not, List, [], Option, Some, None, length}
+use Rattle.stream_reader.proofs.Words.{get_or, refl, sym, arith, IfSome, nat_le, nat_lt, list_all, digits_value, lt-leb, le-leb, lt-ltb, decimal_in}
+use Rattle.stream_reader.proofs.Words.{is_decimal, is_digit, is_empty, is_numeral, digits_on, first_field, has_form}
 use Rattle.std.specs.Prelude.{if◌then◌else◌, cond, slice_index}
-use Rattle.std.specs.List.{list_all}
-use Rattle.std.specs.Str.Parse.{digits_value}
-use Rattle.std.proofs.lemmas.Bool.{lt-leb, le-leb, lt-ltb}
-use Rattle.papi_base.specs.Numerals.{decimal_in, is_decimal, is_digit, is_empty, is_numeral}
-use Rattle.stream_reader.specs.Fields.{digits_on, first_field, has_form}
 use Rattle.stream_reader.proofs.FieldSteps.{number_on-value}
 
 form-of : (t : List ℕ) → (list_all is_digit (first_field t) ≡ true) → is_decimal (first_field t) ≡ has_form (length (first_field t)) (get_or t 0 0)

@@ -1,12 +1,8 @@
 -- The values of sixteen bytes as digits, lane by lane.
 use Rattle.std.proofs.Common.{◌≡◌, ℕ, zero, suc, ◌+◌, ◌-◌, ◌%◌, ◌^◌, ◌<◌, List, [], ◌∷◌, Bool, true, ◌&&◌, cond, ltb, eqb, length, map, replicate, bit_and, refl, subst, inl, inr, arith, w8, Fits}
 use Rattle.std.specs.Prelude.{if◌then◌else◌, nat_le}
-use Rattle.std.specs.Char.{digit_value}
-use Rattle.std.specs.Simd.Lanes.{zip2, sel_l, top}
-use lib.Lanes.{Each1}
-use Rattle.std.proofs.lemmas.Bool.{and_parts, cases_lt, eqb-true, leb-true}
-use Rattle.papi_base.specs.Numerals.{is_hex_digit}
-use Rattle.stream_reader.specs.Digits.{HasValue, HaveValues}
+use Rattle.stream_reader.proofs.Words.{digit_value, zip2, sel_l, top, Each1, and_parts, cases_lt, eqb-true, leb-true, is_hex_digit, HasValue}
+use Rattle.stream_reader.proofs.Words.{HaveValues}
 
 abbrev pub less : ℕ → ℕ → ℕ
 less a b = (a + (2 ^ 8 - b)) % 2 ^ 8

@@ -1,12 +1,7 @@
 -- The mask of the lanes that are not digits, and how many digits come before the first of them.
 use Rattle.std.proofs.Common.{◌≡◌, ℕ, ◌%◌, ◌^◌, ◌<◌, ◌≤◌, List, Bool, cond, leb, length, map, replicate, sym, ap, ◌∙◌, arith, w8}
-use Rattle.std.specs.Simd.Lanes.{zip2, mask_l, top}
-use Rattle.std.specs.List.{prefix_len}
-use Rattle.std.proofs.lemmas.Simd.{tops_compared, zip2_splat_left, mask_l-mod, leading_from_mask_l, trailing_mask_l}
-use Rattle.std.proofs.lemmas.List.{length-map}
-use Rattle.std.proofs.lemmas.List.Sums.{prefix_len-le-length}
-use lib.Count.{count_trailing_zeros}
-use Rattle.stream_reader.specs.Digits.{is_value}
+use Rattle.stream_reader.proofs.Words.{zip2, mask_l, top, prefix_len, tops_compared, zip2_splat_left, mask_l-mod, leading_from_mask_l}
+use Rattle.stream_reader.proofs.Words.{trailing_mask_l, length-map, prefix_len-le-length, count_trailing_zeros, is_value}
 
 abbrev pub is_other : ℕ → Bool
 is_other x = leb 16 x

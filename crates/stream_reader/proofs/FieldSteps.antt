@@ -1,13 +1,7 @@
 -- The number of a field of digits, byte by byte.
-use Rattle.std.proofs.Common.{◌≡◌, ◌+◌, ◌*◌, ◌<◌, ◌≤◌, ◌≢◌, ◌==◌, ◌∷◌, ℕ, Bool, true, false, List, [], Option, Some, None, length, drop, get_or, refl, arith, IfSome}
-use Rattle.std.specs.Prelude.{if◌then◌else◌, cond}
-use Rattle.std.specs.List.{list_all}
-use Rattle.std.specs.Char.{digit_value}
-use Rattle.std.specs.Str.Parse.{digits_value_after}
-use Rattle.std.proofs.lemmas.List.{drop_all}
-use Rattle.std.proofs.lemmas.Bool.{ne_eqb}
-use Rattle.papi_base.specs.Numerals.{is_digit}
-use Rattle.stream_reader.specs.Fields.{digits_on, first_field, number_on}
+use Rattle.stream_reader.proofs.Words.{◌≡◌, ◌+◌, ◌*◌, ◌<◌, ◌≤◌, ◌≢◌, ◌==◌, ◌∷◌, ℕ, Bool, true, false, List, [], Option, Some, None, length, drop}
+use Rattle.stream_reader.proofs.Words.{get_or, refl, arith, IfSome, if◌then◌else◌, cond, list_all, digit_value, digits_value_after, drop_all, ne_eqb}
+use Rattle.stream_reader.proofs.Words.{is_digit, digits_on, first_field, number_on}
 use Rattle.stream_reader.proofs.FirstItems.{cut-at}
 
 -- the field has ended here

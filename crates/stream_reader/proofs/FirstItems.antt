@@ -1,7 +1,6 @@
 -- The items of a list from some place on, one by one.
-use Rattle.std.proofs.Common.{◌≡◌, ◌∙◌, ◌+◌, ◌≤◌, ◌∷◌, ℕ, zero, suc, List, [], length, take, drop, get_or, refl, sym, ap, arith, add-one}
-use Rattle.std.proofs.Math.Seq.{drop-cons}
-use Rattle.std.proofs.lemmas.List.{take_all}
+use Rattle.stream_reader.proofs.Words.{◌≡◌, ◌∙◌, ◌+◌, ◌≤◌, ◌∷◌, ℕ, zero, suc, List, [], length, take, drop, get_or, refl, sym, ap, arith, add-one}
+use Rattle.stream_reader.proofs.Words.{drop-cons, take_all}
 
 pub cut-at : {A : Type 0} (d : A) (t : List A) (i : ℕ) → i + 1 ≤ length t → drop i t ≡ get_or t i d ∷ drop (i + 1) t
 cut-at d t i h = rw add-one (drop-cons t i d (omega arith))

@@ -1,9 +1,8 @@
 -- What a reader that tells has given, one occurrence after another.
 use Rattle.std.proofs.Common.{◌≡◌, List, [], ◌∷◌, ◌++◌, refl, ap, sym, ◌∙◌, subst, append_assoc, append-nil, Option, Some}
-use Rattle.papi_base.specs.declared.occurrence.Occ.{Occ}
+use Rattle.stream_reader.proofs.Words.{Occ, NextGives, at_mark, nothing}
 use Rattle.papi_base.specs.Streams.{Coming, Mark, Dry, Bad, Fault}
 use Rattle.stream_reader.specs.declared.next.Next.TheVariants as next
-use Rattle.stream_reader.specs.Reader.{NextGives, at_mark, nothing}
 
 -- these were given of what was to come, and this comes later
 pub record GaveAll (c : Coming) (os : List Occ) (now : Option Coming) : Type 0 where

@@ -1,28 +1,16 @@
 -- A stream that grows: the lines of what is left and then those of a text, one after another.
-use Rattle.std.proofs.Common.{◌≡◌, ◌∙◌, ◌+◌, ◌-◌, ◌<◌, ◌≤◌, ◌==◌, ◌∷◌, ◌++◌, ◌&&◌, ◌||◌, not, ℕ, Bool, true, false, List, [], length, take, drop, refl, sym, ap, ap₂, subst, arith}
-use Rattle.std.proofs.Common.{Option, Some, None, append_assoc, length-drop}
+use Rattle.stream_reader.proofs.Words.{◌≡◌, ◌∙◌, ◌+◌, ◌-◌, ◌<◌, ◌≤◌, ◌==◌, ◌∷◌, ◌++◌, ◌&&◌, ◌||◌, not, ℕ, Bool, true, false, List, [], length, take}
+use Rattle.stream_reader.proofs.Words.{drop, refl, sym, ap, ap₂, subst, arith, Option, Some, None, append_assoc, length-drop, onto_first, slice_split}
+use Rattle.stream_reader.proofs.Words.{and_parts, ltb-false, option_map, option_map_or, drop-drop, drop_all, take_all, length-take-le, flag_bit}
+use Rattle.stream_reader.proofs.Words.{is_empty, Tape, LineCause, Ending, FirstLine, Judgement, LineStart, Grows, IsFirstLine, are_ended, are_whole}
+use Rattle.stream_reader.proofs.Words.{ends_well, followed, is_dry, is_end, is_open, left_start, place_after, text_says, unread, ReaderView, coming}
+use Rattle.stream_reader.proofs.Words.{comes, nothing, tape_of, FindsNewline, IsKept, judged, line_text, text_judged, Line, is_last_line, lines_of}
+use Rattle.stream_reader.proofs.Words.{tape_lines, after, end_mark, is_bad, joined, occurs_from, occurs_on}
 use Rattle.std.specs.Prelude.{cond, if◌then◌else◌, nat_lt}
-use Rattle.std.specs.List.{onto_first, slice_split}
-use Rattle.std.proofs.lemmas.Bool.{and_parts, ltb-false}
-use Rattle.std.specs.Option.{option_map, option_map_or}
-use Rattle.std.proofs.lemmas.List.{drop-drop, drop_all, take_all, length-take-le}
-use Rattle.papi_base.specs.Numerals.{flag_bit, is_empty}
-use Rattle.papi_base.specs.Outside.{Tape}
 use Rattle.papi_base.specs.Streams.{Bad, Coming, Dry, Fault, Mark}
-use Rattle.papi_base.specs.declared.occurrence.LineCause.{LineCause}
 use Rattle.papi_base.specs.declared.occurrence.LineCause.TheVariants as cause
-use Rattle.papi_base.specs.declared.outside.Ending.{Ending}
 use Rattle.papi_base.specs.declared.outside.Ending.TheVariants as ending
-use Rattle.stream_reader.specs.declared.feeding.FirstLine.{FirstLine}
-use Rattle.stream_reader.specs.declared.line.Judgement.{Judgement}
 use Rattle.stream_reader.specs.declared.line.Judgement.TheVariants as judgement
-use Rattle.stream_reader.specs.declared.line.LineStart.{LineStart}
-use Rattle.stream_reader.specs.Feeding.{Grows, IsFirstLine, are_ended, are_whole, ends_well, followed, is_dry, is_end, is_open, left_start, place_after, text_says, unread}
-use Rattle.stream_reader.specs.Reader.{ReaderView, coming, comes, nothing, tape_of}
-use Rattle.stream_reader.specs.Inside.{FindsNewline, IsKept}
-use Rattle.stream_reader.specs.Judged.{judged, line_text, text_judged}
-use Rattle.stream_reader.specs.Lines.{Line, is_last_line, lines_of, tape_lines}
-use Rattle.stream_reader.specs.Occurs.{after, end_mark, is_bad, joined, occurs_from, occurs_on}
 use Rattle.stream_reader.proofs.Pieces.{last_line, line-first, no-line}
 use Rattle.stream_reader.proofs.Taking.{after-kept}
 

@@ -1,14 +1,8 @@
 -- The number of a field of hexadecimal digits, byte by byte.
-use Rattle.std.proofs.Common.{◌≡◌, ◌∙◌, ◌+◌, ◌*◌, ◌^◌, ◌<◌, ◌≤◌, ◌≢◌, ◌&&◌, ℕ, Bool, true, false, List, Option, Some, None}
-use Rattle.std.proofs.Common.{length, drop, get_or, refl, sym, subst, arith, nat_le, add-one, min, ◌⊎◌, inl, inr}
-use Rattle.std.specs.Prelude.{if◌then◌else◌}
-use Rattle.std.specs.List.{list_all}
-use Rattle.std.specs.Char.{digit_value}
-use Rattle.std.specs.Str.Parse.{digits_value}
-use Rattle.std.proofs.Math.Nat.{pow-suc, pow-le-pow_right}
-use Rattle.std.proofs.lemmas.Bool.{cases_eq, cases_lt, lt-leb, le-leb, ltb-true}
-use Rattle.papi_base.specs.Numerals.{hex_in, is_hex_digit}
-use Rattle.stream_reader.specs.Fields.{first_field, hex_on}
+use Rattle.stream_reader.proofs.Words.{◌≡◌, ◌∙◌, ◌+◌, ◌*◌, ◌^◌, ◌<◌, ◌≤◌, ◌≢◌, ◌&&◌, ℕ, Bool, true, false, List, Option, Some, None, length, drop}
+use Rattle.stream_reader.proofs.Words.{get_or, refl, sym, subst, arith, nat_le, add-one, min, ◌⊎◌, inl, inr, if◌then◌else◌, list_all, digit_value}
+use Rattle.stream_reader.proofs.Words.{digits_value, pow-suc, pow-le-pow_right, cases_eq, cases_lt, lt-leb, le-leb, ltb-true, hex_in, is_hex_digit}
+use Rattle.stream_reader.proofs.Words.{first_field, hex_on}
 use Rattle.stream_reader.proofs.FieldSteps.{Goes, at-digit, at-end, at-other, at-space, number_on-value}
 
 pub hex-none : (few many : ℕ) (t : List ℕ) → hex_on 0 t ≡ None → hex_in few many (first_field t) ≡ None

@@ -1,11 +1,6 @@
 -- Sixteen digits joined to a number: pairs of them as lanes of 16 bits, and the bytes that these make.
-use Rattle.std.proofs.Common.{◌≡◌, ℕ, zero, suc, ◌+◌, ◌*◌, ◌/◌, ◌%◌, ◌^◌, ◌<◌, List, [], ◌∷◌, length, map, replicate, bit_and, refl, sym, ap, subst, ◌∙◌, arith, w64}
-use Rattle.std.specs.Int.{from_be_bytes}
-use Rattle.std.specs.Simd.Lanes.{zip2, number_l, digits_l}
-use lib.Lanes.{Each1}
-use Rattle.std.proofs.lemmas.Nat.{and_mask}
-use Rattle.std.proofs.lemmas.List.{length-map}
-use Rattle.stream_reader.specs.Digits.{number_after}
+use Rattle.stream_reader.proofs.Words.{◌≡◌, ℕ, zero, suc, ◌+◌, ◌*◌, ◌/◌, ◌%◌, ◌^◌, ◌<◌, List, [], ◌∷◌, length, map, replicate, bit_and, refl, sym, ap}
+use Rattle.stream_reader.proofs.Words.{subst, ◌∙◌, arith, w64, from_be_bytes, zip2, number_l, digits_l, Each1, and_mask, length-map, number_after}
 use Rattle.stream_reader.proofs.FirstItems.{whole}
 
 abbrev pub times : ℕ → ℕ → ℕ

@@ -1,13 +1,7 @@
 -- What the fields of a line say.
-use Rattle.std.proofs.Common.{◌≡◌, ◌∙◌, ℕ, Bool, true, false, List, Option, Some, None, refl}
-use Rattle.std.specs.Prelude.{if◌then◌else◌}
-use Rattle.std.specs.Option.{option_map_or}
-use Rattle.papi_base.specs.declared.occurrence.Occ.{Occ}
+use Rattle.stream_reader.proofs.Words.{◌≡◌, ◌∙◌, ℕ, Bool, true, false, List, Option, Some, None, refl, if◌then◌else◌, option_map_or, Occ, LineStart}
+use Rattle.stream_reader.proofs.Words.{Bad, fields_judged, fields_of, has_fields, occ_of, occurrence_judged, occurrence_on}
 use Rattle.papi_base.specs.declared.occurrence.LineCause.TheVariants as cause
-use Rattle.stream_reader.specs.declared.line.LineStart.{LineStart}
-use Rattle.stream_reader.specs.declared.line.Judgement.TheVariants.{Bad}
-use Rattle.stream_reader.specs.Judged.{fields_judged, fields_of, has_fields, occ_of, occurrence_judged}
-use Rattle.stream_reader.specs.Fields.{occurrence_on}
 use Rattle.stream_reader.proofs.OneByOne.{occurrence-read}
 
 pub judged-some : (start : LineStart) (t : List ℕ) (o : Occ) → Some o ≡ occurrence_on start.stamped start.given t → fields_judged start (fields_of t) ≡ occurrence_judged start o

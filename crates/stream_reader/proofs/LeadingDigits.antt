@@ -1,16 +1,8 @@
 -- The digits that come first among sixteen bytes, and their number.
-use Rattle.std.proofs.Common.{◌≡◌, ◌∙◌, ◌+◌, ◌-◌, ◌*◌, ◌/◌, ◌^◌, ◌<◌, ◌≤◌, ◌∷◌, ℕ, zero, suc, Bool, true, false, not, List, [], length, map, take, drop, refl, sym, ap, arith, nat_le}
-use Rattle.std.specs.Prelude.{cond}
-use Rattle.std.specs.List.{list_all, prefix_len}
-use Rattle.std.specs.Char.{digit_value}
-use Rattle.std.specs.Str.Parse.{digits_value, digits_value_after}
-use Rattle.std.proofs.Math.Nat.{pow-suc, div-div-eq-div-mul}
-use Rattle.std.proofs.lemmas.Bool.{leb-false, ltb-true}
-use lib.Lanes.{Each1, chunk}
-use Rattle.std.proofs.lemmas.Simd.{length-chunk}
-use Rattle.std.proofs.lemmas.List.{length-map, take-take}
-use Rattle.papi_base.specs.Numerals.{is_hex_digit}
-use Rattle.stream_reader.specs.Digits.{HasValue, HaveValues, IsHexadecimal, is_value, number_after, piece}
+use Rattle.stream_reader.proofs.Words.{◌≡◌, ◌∙◌, ◌+◌, ◌-◌, ◌*◌, ◌/◌, ◌^◌, ◌<◌, ◌≤◌, ◌∷◌, ℕ, zero, suc, Bool, true, false, not, List, [], length, map}
+use Rattle.stream_reader.proofs.Words.{take, drop, refl, sym, ap, arith, nat_le, cond, list_all, prefix_len, digit_value, digits_value}
+use Rattle.stream_reader.proofs.Words.{digits_value_after, pow-suc, div-div-eq-div-mul, leb-false, ltb-true, Each1, chunk, length-chunk, length-map}
+use Rattle.stream_reader.proofs.Words.{take-take, is_hex_digit, HasValue, HaveValues, IsHexadecimal, is_value, number_after, piece}
 use Rattle.stream_reader.proofs.ByteTables.{at-place}
 use Rattle.stream_reader.proofs.JoinedDigits.{low, small}
 use Rattle.stream_reader.proofs.DigitRuns.{run_le}

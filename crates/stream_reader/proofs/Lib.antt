@@ -30,3 +30,4 @@ pub mod Taking
 pub mod Telling
 pub mod Turning
 pub mod WholeLines
+pub mod Words

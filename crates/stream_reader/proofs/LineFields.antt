@@ -1,13 +1,7 @@
 -- The fields of a whole line.
-use Rattle.std.proofs.Common.{◌≡◌, ◌∙◌, ◌++◌, ◌∷◌, ◌==◌, ℕ, Bool, true, false, List, [], Some, None, refl, ap, arith}
-use Rattle.std.specs.List.{list_all, AllByRecursion}
-use Rattle.std.proofs.lemmas.Bool.{and_parts}
-use Rattle.std.proofs.lemmas.Bool.Decides.{nat_tests}
-use Rattle.papi_base.specs.Numerals.{decimal_in, hex_in}
-use Rattle.stream_reader.specs.declared.common_line.Head.{Head}
-use Rattle.stream_reader.specs.Judged.{mode_of, without_return}
-use Rattle.stream_reader.specs.Fields.{after_field, event_occurrence_on, first_field, occurrence_on, stamp_after, tail_on}
-use Rattle.stream_reader.specs.CommonLines.{is_inner, is_plain}
+use Rattle.stream_reader.proofs.Words.{◌≡◌, ◌∙◌, ◌++◌, ◌∷◌, ◌==◌, ℕ, Bool, true, false, List, [], Some, None, refl, ap, arith, list_all}
+use Rattle.stream_reader.proofs.Words.{AllByRecursion, and_parts, nat_tests, decimal_in, hex_in, Head, mode_of, without_return, after_field}
+use Rattle.stream_reader.proofs.Words.{event_occurrence_on, first_field, occurrence_on, stamp_after, tail_on, is_inner, is_plain}
 
 no-space : (b : ℕ) → is_inner b ≡ true → (b == 32) ≡ false
 no-space b h = grind (arith, nat_tests)

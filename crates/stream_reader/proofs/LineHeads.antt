@@ -1,13 +1,7 @@
 -- The fields between the component and the amount.
-use Rattle.std.proofs.Common.{◌≡◌, ◌+◌, ◌*◌, ◌≤◌, ◌==◌, ◌∷◌, ℕ, Bool, true, false, [], Some, refl, ap, arith, bit_or}
-use Rattle.std.specs.Prelude.{if◌then◌else◌}
-use Rattle.std.specs.Char.{digit_value}
-use Rattle.std.proofs.lemmas.Bool.Decides.{nat_tests}
-use Rattle.std.proofs.lemmas.Nat.{le_or_l, le_or_r}
-use Rattle.papi_base.specs.Numerals.{hex_in, is_hex_digit}
-use Rattle.stream_reader.specs.Judged.{mode_of}
-use Rattle.stream_reader.specs.ByteTables.{digit_or_256, mode_or_256}
-use Rattle.stream_reader.specs.CommonLines.{IsInner, is_inner}
+use Rattle.stream_reader.proofs.Words.{◌≡◌, ◌+◌, ◌*◌, ◌≤◌, ◌==◌, ◌∷◌, ℕ, Bool, true, false, [], Some, refl, ap, arith, bit_or, if◌then◌else◌}
+use Rattle.stream_reader.proofs.Words.{digit_value, nat_tests, le_or_l, le_or_r, hex_in, is_hex_digit, mode_of, digit_or_256, mode_or_256, IsInner}
+use Rattle.stream_reader.proofs.Words.{is_inner}
 
 pub inner-hex : (b : ℕ) → is_hex_digit b ≡ true → is_inner b ≡ true
 inner-hex b h = grind (arith, nat_tests)

@@ -1,10 +1,6 @@
 -- The mode of a field.
-use Rattle.std.proofs.Common.{◌≡◌, ◌∙◌, ◌==◌, ◌&&◌, ◌∷◌, ℕ, Bool, true, false, List, [], Option, Some, None, length, get_or, refl, sym, ap, suc, nat_lt, arith}
-use Rattle.std.specs.Prelude.{if◌then◌else◌, cond}
-use Rattle.std.proofs.lemmas.Bool.{eqb-true, lt-ltb}
-use Rattle.std.proofs.lemmas.Bool.Decides.{nat_tests}
-use Rattle.stream_reader.specs.Judged.{mode_of}
-use Rattle.stream_reader.specs.Fields.{first_field, is_one_byte}
+use Rattle.stream_reader.proofs.Words.{◌≡◌, ◌∙◌, ◌==◌, ◌&&◌, ◌∷◌, ℕ, Bool, true, false, List, [], Option, Some, None, length, get_or, refl, sym, ap}
+use Rattle.stream_reader.proofs.Words.{suc, nat_lt, arith, if◌then◌else◌, cond, eqb-true, lt-ltb, nat_tests, mode_of, first_field, is_one_byte}
 
 abbrev pub mode_byte : ℕ → Option Bool
 mode_byte b = if b == 117 then Some false else if b == 107 then Some true else None

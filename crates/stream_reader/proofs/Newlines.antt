@@ -1,12 +1,8 @@
 -- Where a text has its first newline.
-use Rattle.std.proofs.Common.{◌≡◌, ◌∙◌, ◌+◌, ◌<◌, ◌≤◌, ◌++◌, ◌∷◌, ◌==◌, ℕ, suc, Bool, true, false, not, List, [], length, take, get_or, refl, sym, ap, subst, arith, add-one, Option, Some, None}
-use Rattle.std.specs.List.{AllByRecursion, prefix_len}
-use Rattle.std.proofs.Math.Seq.{drop-cons}
-use Rattle.std.proofs.lemmas.List.{length-take-le, take-append-drop, get_or-take}
-use Rattle.std.proofs.lemmas.Bool.{eqb-true}
-use Rattle.std.proofs.lemmas.Simd.{run_in_chunk_fails, run_in_chunk_stops}
-use Rattle.memchr.specs.Find.{IsFirstByte, is_byte}
-use Rattle.stream_reader.specs.Inside.{FindsNewline}
+use Rattle.stream_reader.proofs.Words.{◌≡◌, ◌∙◌, ◌+◌, ◌<◌, ◌≤◌, ◌++◌, ◌∷◌, ◌==◌, ℕ, suc, Bool, true, false, not, List, [], length, take, get_or, refl}
+use Rattle.stream_reader.proofs.Words.{sym, ap, subst, arith, add-one, Option, Some, None, AllByRecursion, prefix_len, drop-cons, length-take-le}
+use Rattle.stream_reader.proofs.Words.{take-append-drop, get_or-take, eqb-true, run_in_chunk_fails, run_in_chunk_stops, IsFirstByte, is_byte}
+use Rattle.stream_reader.proofs.Words.{FindsNewline}
 
 not-true : (b : Bool) → (b ≡ true → ⊥) → b ≡ false
 not-true true h = absurd (h refl)

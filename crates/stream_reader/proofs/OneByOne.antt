@@ -1,12 +1,7 @@
 -- The fields one by one are the fields of the whole line.
-use Rattle.std.proofs.Common.{◌≡◌, ◌∙◌, ◌+◌, ◌<◌, ◌==◌, ◌∷◌, ℕ, suc, Bool, true, false, List, [], Option, Some, None, length, refl, sym, ap, arith}
-use Rattle.std.specs.Prelude.{if◌then◌else◌}
-use Rattle.std.proofs.lemmas.Bool.{ne_eqb}
-use Rattle.std.proofs.lemmas.Bool.Decides.{nat_tests}
-use Rattle.papi_base.specs.Numerals.{decimal_in, flag_bit, hex_in}
-use Rattle.papi_base.specs.declared.occurrence.Occ.{Occ}
-use Rattle.stream_reader.specs.Judged.{fields_of, given, has_fields, mode_of, occ_of}
-use Rattle.stream_reader.specs.Fields.{after_field, ends_with, event_occurrence_on, first_field, occurrence_on, stamp_after, tail_on}
+use Rattle.stream_reader.proofs.Words.{◌≡◌, ◌∙◌, ◌+◌, ◌<◌, ◌==◌, ◌∷◌, ℕ, suc, Bool, true, false, List, [], Option, Some, None, length, refl, sym, ap}
+use Rattle.stream_reader.proofs.Words.{arith, if◌then◌else◌, ne_eqb, nat_tests, decimal_in, flag_bit, hex_in, Occ, fields_of, given, has_fields}
+use Rattle.stream_reader.proofs.Words.{mode_of, occ_of, after_field, ends_with, event_occurrence_on, first_field, occurrence_on, stamp_after, tail_on}
 use Rattle.stream_reader.proofs.Rests.{fields_after, fields-first}
 
 abbrev Text : Type 0

@@ -1,17 +1,11 @@
 -- How a tape is read in pieces.
-use Rattle.std.proofs.Common.{◌≡◌, ◌<◌, ◌==◌, ◌∷◌, ◌++◌, ℕ, Bool, true, false, List, [], length, refl, ap, arith, nat_lt}
-use Rattle.std.specs.List.{AllByRecursion, slice_split, onto_first}
-use Rattle.std.specs.Prelude.{cond, if◌then◌else◌}
+use Rattle.stream_reader.proofs.Words.{◌≡◌, ◌<◌, ◌==◌, ◌∷◌, ◌++◌, ℕ, Bool, true, false, List, [], length, refl, ap, arith, nat_lt, AllByRecursion}
+use Rattle.stream_reader.proofs.Words.{slice_split, onto_first, cond, if◌then◌else◌, lt-ltb, Ending, Line, is_last_line, lines_of, tape_lines}
+use Rattle.stream_reader.proofs.Words.{LineStart, judged, after, end_mark, joined, occurs_from, occurs_on}
 use Rattle.std.proofs.lemmas.List.{length-append}
-use Rattle.std.proofs.lemmas.Bool.{lt-ltb}
-use Rattle.papi_base.specs.declared.outside.Ending.{Ending}
 use Rattle.papi_base.specs.declared.outside.Ending.TheVariants as ending
 use Rattle.papi_base.specs.declared.occurrence.LineCause.TheVariants as cause
-use Rattle.stream_reader.specs.Lines.{Line, is_last_line, lines_of, tape_lines}
 use Rattle.papi_base.specs.Streams.{Bad}
-use Rattle.stream_reader.specs.declared.line.LineStart.{LineStart}
-use Rattle.stream_reader.specs.Judged.{judged}
-use Rattle.stream_reader.specs.Occurs.{after, end_mark, joined, occurs_from, occurs_on}
 
 -- no byte of the text is a newline
 abbrev pub OneLine : List ℕ → Type 0

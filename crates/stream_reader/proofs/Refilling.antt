@@ -1,16 +1,10 @@
 -- What a piece says of the source's tape.
-use Rattle.std.proofs.Common.{◌≡◌, ◌∙◌, ◌+◌, ◌-◌, ◌<◌, ◌≤◌, ◌++◌, ◌∷◌, ℕ, Bool, List, [], length, take, drop, refl, sym, ap, subst, arith, IfSome, Option, Some, None, Result, Ok, Err}
-use Rattle.std.specs.Prelude.{IfOk, MatchResult}
-use Rattle.std.specs.Result.{result_unwrap_or}
+use Rattle.stream_reader.proofs.Words.{◌≡◌, ◌∙◌, ◌+◌, ◌-◌, ◌<◌, ◌≤◌, ◌++◌, ◌∷◌, ℕ, Bool, List, [], length, take, drop, refl, sym, ap, subst, arith}
+use Rattle.stream_reader.proofs.Words.{IfSome, Option, Some, None, Result, Ok, Err, IfOk, MatchResult, result_unwrap_or, Gives, Tape, answer_at}
+use Rattle.stream_reader.proofs.Words.{tape_after, Failed, Ending, LineStart, ReaderView, SourceView, before_rest, HasEnded, IsReader, Refills}
 use Rattle.std.specs.Option.{is_some, option_and_then, option_map, option_map_or}
 use Rattle.std.proofs.lemmas.List.{length-drop, length-take-le, take-append-drop}
-use Rattle.papi_base.specs.Outside.{Gives, Tape, answer_at, tape_after}
-use Rattle.papi_base.specs.declared.outside.Failed.{Failed}
-use Rattle.papi_base.specs.declared.outside.Ending.{Ending}
 use Rattle.papi_base.specs.declared.outside.Ending.TheVariants.{End, Fault}
-use Rattle.stream_reader.specs.declared.line.LineStart.{LineStart}
-use Rattle.stream_reader.specs.Reader.{ReaderView, SourceView, before_rest}
-use Rattle.stream_reader.specs.Inside.{HasEnded, IsReader, Refills}
 use Rattle.stream_reader.proofs.Room.{held-filled}
 
 -- the tape and the count that a source's view shows

@@ -1,9 +1,6 @@
 -- What comes after a field.
-use Rattle.std.proofs.Common.{◌≡◌, ◌+◌, ◌<◌, ◌≤◌, ◌==◌, ◌∷◌, ℕ, suc, Bool, true, false, List, [], Option, Some, None, length, drop, refl, ap, arith, add-one}
-use Rattle.std.specs.Prelude.{if◌then◌else◌, cond}
-use Rattle.std.specs.List.{onto_first}
-use Rattle.stream_reader.specs.Judged.{fields_of}
-use Rattle.stream_reader.specs.Fields.{after_field, first_field}
+use Rattle.stream_reader.proofs.Words.{◌≡◌, ◌+◌, ◌<◌, ◌≤◌, ◌==◌, ◌∷◌, ℕ, suc, Bool, true, false, List, [], Option, Some, None, length, drop, refl, ap}
+use Rattle.stream_reader.proofs.Words.{arith, add-one, if◌then◌else◌, cond, onto_first, fields_of, after_field, first_field}
 
 after-drop : (t : List ℕ) → length (first_field t) < length t → after_field t ≡ Some (drop (suc (length (first_field t))) t)
 unfolding after_field first_field

@@ -1,7 +1,6 @@
 -- A carriage return at the end of a line.
-use Rattle.std.proofs.Common.{◌≡◌, ◌+◌, ◌-◌, ◌<◌, ◌≢◌, ◌==◌, ◌∷◌, ℕ, zero, suc, false, List, [], length, take, get_or, refl, sym, ap, arith, eq-eqb}
-use Rattle.std.proofs.lemmas.Bool.Decides.{nat_tests}
-use Rattle.stream_reader.specs.Judged.{without_return}
+use Rattle.stream_reader.proofs.Words.{◌≡◌, ◌+◌, ◌-◌, ◌<◌, ◌≢◌, ◌==◌, ◌∷◌, ℕ, zero, suc, false, List, [], length, take, get_or, refl, sym, ap, arith}
+use Rattle.stream_reader.proofs.Words.{eq-eqb, nat_tests, without_return}
 
 last-return : (t : List ℕ) (n : ℕ) → n + 1 ≡ length t → get_or t n 0 ≡ 13 → without_return t ≡ take n t
 unfolding without_return

@@ -1,11 +1,7 @@
 -- The bytes of a reader: the place of a line, and a piece after it.
-use Rattle.std.proofs.Common.{◌≡◌, ◌∙◌, ◌+◌, ◌-◌, ◌≤◌, ◌++◌, ℕ, Bool, Option, List, [], length, take, drop, sym, ap, arith, length-drop, length-append}
-use Rattle.std.proofs.Math.Seq.{take-add}
-use Rattle.std.proofs.lemmas.List.{append-nil, drop-drop, drop-take, drop_all, drop_at, length-take-le}
-use borrow.Rule.Slice.PartMut.{mid_of, put_mid}
-use Rattle.stream_reader.specs.declared.line.LineStart.{LineStart}
-use Rattle.stream_reader.specs.Reader.{ReaderView, SourceView}
-use Rattle.stream_reader.specs.Inside.{IsReader}
+use Rattle.stream_reader.proofs.Words.{◌≡◌, ◌∙◌, ◌+◌, ◌-◌, ◌≤◌, ◌++◌, ℕ, Bool, Option, List, [], length, take, drop, sym, ap, arith, length-drop}
+use Rattle.stream_reader.proofs.Words.{length-append, take-add, append-nil, drop-drop, drop-take, drop_all, drop_at, length-take-le, mid_of, put_mid}
+use Rattle.stream_reader.proofs.Words.{LineStart, ReaderView, SourceView, IsReader}
 
 -- what was written from a on to the end
 pub drop-put_end : (a k : ℕ) (xs ys : List ℕ) → length xs ≡ a + k → drop a (put_mid a k xs ys) ≡ ys

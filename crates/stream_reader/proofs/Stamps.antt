@@ -1,19 +1,9 @@
 -- Stamps, and what stands between a program counter and the newline.
-use Rattle.std.proofs.Common.{◌≡◌, ◌∙◌, ◌+◌, ◌-◌, ◌*◌, ◌<◌, ◌≤◌, ◌∷◌, ◌==◌, ◌||◌, ◌^◌, ℕ, true, false, not, List, [], Some, None, length, drop, take, get_or, refl, sym, ap, arith, add-one, nat_lt}
-use Rattle.std.specs.List.{list_all}
-use Rattle.std.specs.Str.Parse.{digits_value}
-use Rattle.std.proofs.Math.Nat.{pow-suc}
-use Rattle.std.proofs.Math.Seq.{take-add}
+use Rattle.stream_reader.proofs.Words.{◌≡◌, ◌∙◌, ◌+◌, ◌-◌, ◌*◌, ◌<◌, ◌≤◌, ◌∷◌, ◌==◌, ◌||◌, ◌^◌, ℕ, true, false, not, List, [], Some, None, length}
+use Rattle.stream_reader.proofs.Words.{drop, take, get_or, refl, sym, ap, arith, add-one, nat_lt, list_all, digits_value, pow-suc, take-add}
+use Rattle.stream_reader.proofs.Words.{list_all_more, digits_value_more, and_parts, ltb-true, decimal_in, is_digit, Field, LineStart, piece}
+use Rattle.stream_reader.proofs.Words.{after_field, first_field, has_form, stamp_after, IsDigits, IsStamp, is_plain}
 use Rattle.std.proofs.lemmas.List.{get_or-take, length-take-le, length-drop}
-use Rattle.std.proofs.lemmas.List.Folds.{list_all_more}
-use Rattle.std.proofs.lemmas.Int.Digits.{digits_value_more}
-use Rattle.std.proofs.lemmas.Bool.{and_parts, ltb-true}
-use Rattle.papi_base.specs.Numerals.{decimal_in, is_digit}
-use Rattle.stream_reader.specs.declared.field.Field.{Field}
-use Rattle.stream_reader.specs.declared.line.LineStart.{LineStart}
-use Rattle.stream_reader.specs.Digits.{piece}
-use Rattle.stream_reader.specs.Fields.{after_field, first_field, has_form, stamp_after}
-use Rattle.stream_reader.specs.CommonLines.{IsDigits, IsStamp, is_plain}
 use Rattle.stream_reader.proofs.DecimalBytes.{decimal-of, digit, digits-inner}
 use Rattle.stream_reader.proofs.FirstItems.{taken}
 use Rattle.stream_reader.proofs.LineFields.{all-plain, last-after, last-first, space-first}

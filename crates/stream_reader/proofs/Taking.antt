@@ -1,19 +1,9 @@
 -- A line taken from the bytes held.
-use Rattle.std.proofs.Common.{◌≡◌, ◌∙◌, ◌+◌, ◌-◌, ◌<◌, ◌≤◌, ℕ, Bool, true, false, List, length, take, drop, Option, Some, None, IfNone, refl, sym, ap, ap₂, subst, arith, nat_lt, length-drop}
-use Rattle.std.specs.Prelude.{if◌then◌else◌}
-use Rattle.std.proofs.lemmas.Bool.{ltb-false}
-use Rattle.std.proofs.lemmas.List.{length-take-le}
-use mir.Val.{bool_byte}
-use Rattle.papi_base.specs.Numerals.{flag_bit}
+use Rattle.stream_reader.proofs.Words.{◌≡◌, ◌∙◌, ◌+◌, ◌-◌, ◌<◌, ◌≤◌, ℕ, Bool, true, false, List, length, take, drop, Option, Some, None, IfNone, refl}
+use Rattle.stream_reader.proofs.Words.{sym, ap, ap₂, subst, arith, nat_lt, length-drop, if◌then◌else◌, ltb-false, length-take-le, bool_byte, flag_bit}
+use Rattle.stream_reader.proofs.Words.{LineStart, Judgement, Bad, Skipped, Version, Occurs, Line, judged, line_text, text_judged, IsStart, after}
+use Rattle.stream_reader.proofs.Words.{is_bad, Gave, ReaderView, SourceView, IsKept, IsReader, TakesLine, answer_of, left_of, line_at, line_taken}
 use Rattle.papi_base.specs.declared.occurrence.LineCause.TheVariants as cause
-use Rattle.stream_reader.specs.declared.line.LineStart.{LineStart}
-use Rattle.stream_reader.specs.declared.line.Judgement.{Judgement}
-use Rattle.stream_reader.specs.declared.line.Judgement.TheVariants.{Bad, Skipped, Version, Occurs}
-use Rattle.stream_reader.specs.Lines.{Line}
-use Rattle.stream_reader.specs.Judged.{judged, line_text, text_judged}
-use Rattle.stream_reader.specs.Occurs.{IsStart, after, is_bad}
-use Rattle.stream_reader.specs.Reader.{Gave, ReaderView, SourceView}
-use Rattle.stream_reader.specs.Inside.{IsKept, IsReader, TakesLine, answer_of, left_of, line_at, line_taken}
 use Rattle.stream_reader.proofs.Bounds.{line-occurrence, stamp-fits, state-next}
 use Rattle.stream_reader.proofs.Room.{held-drop, length-held}
 

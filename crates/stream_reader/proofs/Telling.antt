@@ -1,14 +1,8 @@
 -- A reader whose source tells gives the next occurrence, or the mark.
-use Rattle.std.proofs.Common.{ℕ, ◌≡◌, ◌∙◌, ◌++◌, Bool, true, false, [], refl, sym, ap, subst, Option, Some, None, IfSome, inl, inr, ◌⊎◌}
-use Rattle.std.specs.Option.{option_map}
-use Rattle.std.proofs.lemmas.List.{append-nil}
-use Rattle.papi_base.specs.Streams.{Coming}
-use Rattle.papi_base.specs.Outside.{Tape}
-use Rattle.stream_reader.specs.declared.next.Next.{Next}
+use Rattle.stream_reader.proofs.Words.{ℕ, ◌≡◌, ◌∙◌, ◌++◌, Bool, true, false, [], refl, sym, ap, subst, Option, Some, None, IfSome, inl, inr, ◌⊎◌}
+use Rattle.stream_reader.proofs.Words.{option_map, append-nil, Coming, Tape, Next, occurs_of, new_view, Closes, GoesOn, NextGives, ReaderView, Takes}
+use Rattle.stream_reader.proofs.Words.{before_rest, comes, coming, follows, has_answer, is_last, nothing, tape_of, Passes}
 use Rattle.stream_reader.specs.declared.next.Next.TheVariants as next
-use Rattle.stream_reader.specs.Occurs.{occurs_of}
-use Rattle.stream_reader.specs.Reader.{new_view, Closes, GoesOn, NextGives, ReaderView, Takes, before_rest, comes, coming, follows, has_answer, is_last, nothing, tape_of}
-use Rattle.stream_reader.specs.Inside.{Passes}
 use Rattle.stream_reader.proofs.Turning.{comes-over, same-tape}
 
 -- that it was asked changes nothing of what is to come

@@ -1,26 +1,14 @@
 -- What a line, a piece or the end of the source says of what is to come.
-use Rattle.std.proofs.Common.{◌≡◌, ◌∙◌, ◌+◌, ◌<◌, ◌≤◌, ◌++◌, ◌∷◌, ℕ, Bool, true, false, List, [], length, take, drop, refl, sym, ap}
-use Rattle.std.proofs.Common.{arith, append_assoc, Option, Some, None, Result, Ok, Err, IfSome, inl, inr, ◌⊎◌, IfNone}
-use Rattle.std.specs.Prelude.{if◌then◌else◌, is_some, unwrap_or}
-use Rattle.std.specs.Option.{option_and_then, option_map}
-use Rattle.std.proofs.lemmas.Bool.{le-ltb}
-use Rattle.std.proofs.lemmas.Bool.Decides.{nat_tests}
-use Rattle.std.proofs.lemmas.List.{append-nil, take_all}
-use Rattle.papi_base.specs.Streams.{Fault}
-use Rattle.papi_base.specs.Outside.{Tape}
-use Rattle.papi_base.specs.declared.outside.Failed.{Failed}
-use Rattle.papi_base.specs.declared.outside.Ending.{Ending}
+use Rattle.stream_reader.proofs.Words.{◌≡◌, ◌∙◌, ◌+◌, ◌<◌, ◌≤◌, ◌++◌, ◌∷◌, ℕ, Bool, true, false, List, [], length, take, drop, refl, sym, ap, arith}
+use Rattle.stream_reader.proofs.Words.{append_assoc, Option, Some, None, Result, Ok, Err, IfSome, inl, inr, ◌⊎◌, IfNone, if◌then◌else◌, is_some}
+use Rattle.stream_reader.proofs.Words.{unwrap_or, option_and_then, option_map, le-ltb, nat_tests, append-nil, take_all, Fault, Tape, Failed, Ending}
+use Rattle.stream_reader.proofs.Words.{Judgement, Next, IsOneLine, Line, is_last_line, tape_lines, judged, after, joined, occurs_on, Closes, GoesOn}
+use Rattle.stream_reader.proofs.Words.{ReaderView, SourceView, Takes, answers_from, before_rest, comes, follows, has_answer, is_last, nothing}
+use Rattle.stream_reader.proofs.Words.{tape_of, FindsNewline, HasEnded, Passes, Refills, TakesLine, Turns, answer_of, line_at, line_taken}
 use Rattle.papi_base.specs.declared.outside.Ending.TheVariants as ending
 use Rattle.papi_base.specs.declared.occurrence.LineCause.TheVariants as cause
-use Rattle.stream_reader.specs.declared.line.Judgement.{Judgement}
 use Rattle.stream_reader.specs.declared.line.Judgement.TheVariants as judgement
-use Rattle.stream_reader.specs.declared.next.Next.{Next}
 use Rattle.stream_reader.specs.declared.next.Next.TheVariants as next
-use Rattle.stream_reader.specs.Lines.{IsOneLine, Line, is_last_line, tape_lines}
-use Rattle.stream_reader.specs.Judged.{judged}
-use Rattle.stream_reader.specs.Occurs.{after, joined, occurs_on}
-use Rattle.stream_reader.specs.Reader.{Closes, GoesOn, ReaderView, SourceView, Takes, answers_from, before_rest, comes, follows, has_answer, is_last, nothing, tape_of}
-use Rattle.stream_reader.specs.Inside.{FindsNewline, HasEnded, Passes, Refills, TakesLine, Turns, answer_of, line_at, line_taken}
 use Rattle.stream_reader.proofs.Pieces.{last_line, line-first, no-line, occurs-end, occurs-last, occurs-line, occurs-long}
 
 -- no byte was taken

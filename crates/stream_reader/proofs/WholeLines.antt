@@ -1,20 +1,10 @@
 -- A whole line from its fields.
-use Rattle.std.proofs.Common.{◌≡◌, ◌∙◌, ◌+◌, ◌-◌, ◌<◌, ◌≤◌, ◌==◌, ◌++◌, ◌∷◌, ℕ, true, false, List, [], Some, length, drop, take, get_or, refl, sym, ap, subst, inl, inr, arith}
-use Rattle.std.specs.List.{list_all, AllByRecursion}
-use Rattle.std.specs.Str.Parse.{digits_value}
-use Rattle.std.proofs.Math.Seq.{take-add}
+use Rattle.stream_reader.proofs.Words.{◌≡◌, ◌∙◌, ◌+◌, ◌-◌, ◌<◌, ◌≤◌, ◌==◌, ◌++◌, ◌∷◌, ℕ, true, false, List, [], Some, length, drop, take, get_or}
+use Rattle.stream_reader.proofs.Words.{refl, sym, ap, subst, inl, inr, arith, list_all, AllByRecursion, digits_value, take-add, list_all-append}
+use Rattle.stream_reader.proofs.Words.{and_parts, le-leb, hex_in, is_hex_digit, Front, Head, Field, LineStart, IsHexadecimal, piece, occurrence_on}
+use Rattle.stream_reader.proofs.Words.{without_return, BeginsWith, BeginsWithComponent, EndsAt, HasHeadSpaces, IsAmount, IsFront, IsHead, IsStamp}
+use Rattle.stream_reader.proofs.Words.{is_inner, is_plain, occ_with}
 use Rattle.std.proofs.lemmas.List.{take_more, drop-drop, length-take-le, length-drop, append_assoc}
-use Rattle.std.proofs.lemmas.List.Folds.{list_all-append}
-use Rattle.std.proofs.lemmas.Bool.{and_parts, le-leb}
-use Rattle.papi_base.specs.Numerals.{hex_in, is_hex_digit}
-use Rattle.stream_reader.specs.declared.common_line.Front.{Front}
-use Rattle.stream_reader.specs.declared.common_line.Head.{Head}
-use Rattle.stream_reader.specs.declared.field.Field.{Field}
-use Rattle.stream_reader.specs.declared.line.LineStart.{LineStart}
-use Rattle.stream_reader.specs.Digits.{IsHexadecimal, piece}
-use Rattle.stream_reader.specs.Fields.{occurrence_on}
-use Rattle.stream_reader.specs.Judged.{without_return}
-use Rattle.stream_reader.specs.CommonLines.{BeginsWith, BeginsWithComponent, EndsAt, HasHeadSpaces, IsAmount, IsFront, IsHead, IsStamp, is_inner, is_plain, occ_with}
 use Rattle.stream_reader.proofs.FirstItems.{taken}
 use Rattle.stream_reader.proofs.LineHeads.{inner-hex}
 use Rattle.stream_reader.proofs.LineFields.{AreInner, fields-plain, line, line-is, plain-one, plain-whole, return-one, return-whole}

@@ -8,3 +8,4 @@ pub mod Records
 pub mod ReaderRows
 pub mod RowsBack
 pub mod TablesRead
+pub mod Words

@@ -1,18 +1,10 @@
 -- Names, printable texts and numerals as text, and their values.
-use Rattle.std.proofs.Common.{◌≡◌, ◌+◌, ◌-◌, ◌*◌, ◌<◌, ◌≤◌, ◌^◌, ◌∷◌, ◌∙◌, ℕ, List, [], Some, None, Bool, true, false, length, get_or, take, refl, sym, ap, ap₂, arith}
-use Rattle.std.proofs.lemmas.Grind.{common_steps}
-use Rattle.std.proofs.lemmas.Bool.{leb-true, ltb-true, lt-ltb, le-ltb, ne_eqb, and_parts}
-use Rattle.std.proofs.lemmas.Str.{IsUtf8-from_ascii}
-use Rattle.std.proofs.lemmas.Int.Digits.{digits_value-lt, digits_value_more}
-use Rattle.std.proofs.lemmas.Str.Parse.{digits_value-take-le}
-use Rattle.std.proofs.Math.Nat.{pow-le-pow_right}
-use Rattle.std.specs.Result.{result_ok}
+use Rattle.table_rows.proofs.Words.{◌≡◌, ◌+◌, ◌-◌, ◌*◌, ◌<◌, ◌≤◌, ◌^◌, ◌∷◌, ◌∙◌, ℕ, List, [], Some, None, Bool, true, false, length, get_or, take}
+use Rattle.table_rows.proofs.Words.{refl, sym, ap, ap₂, arith, common_steps, leb-true, ltb-true, lt-ltb, le-ltb, ne_eqb, and_parts, IsUtf8-from_ascii}
+use Rattle.table_rows.proofs.Words.{digits_value-lt, digits_value_more, digits_value-take-le, pow-le-pow_right, result_ok, list_all, IsAscii}
+use Rattle.table_rows.proofs.Words.{digit_value, AllDigits, IsNumeral, ParsesUnsigned, digits_value, without_leading_plus, is_decimal, is_digit}
+use Rattle.table_rows.proofs.Words.{is_hex_digit, is_name, is_name_byte, is_numeral, is_printable, is_printable_byte}
 use Rattle.std.specs.Prelude.{◌==◌, zero, suc, nat_lt, if◌then◌else◌, IsUtf8, Result, Ok, Err}
-use Rattle.std.specs.List.{list_all}
-use Rattle.std.specs.Str.{IsAscii}
-use Rattle.std.specs.Char.{digit_value}
-use Rattle.std.specs.Str.Parse.{AllDigits, IsNumeral, ParsesUnsigned, digits_value, without_leading_plus}
-use Rattle.table_rows.specs.Texts.{is_decimal, is_digit, is_hex_digit, is_name, is_name_byte, is_numeral, is_printable, is_printable_byte}
 
 -- ---- as text
 

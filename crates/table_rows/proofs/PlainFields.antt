@@ -1,15 +1,10 @@
 -- The fields that `csv` reads with no quotes have no commas, and no bytes that end a row.
-use Rattle.std.proofs.Common.{◌≡◌, ◌+◌, ◌==◌, ◌∷◌, ◌++◌, ℕ, zero, suc, List, [], Option, Some, None, length, refl}
-use Rattle.std.specs.Prelude.{⊤}
-use Rattle.std.specs.List.{AllByRecursion}
-use Rattle.std.proofs.lemmas.Bool.{cond_both, or_parts}
-use Rattle.csv.specs.Machine.{Read, after_end, ends_at_end, ends_with, field_after, fields_after, in_field, is_byte, is_end, next_record, start_record, step}
-use Rattle.csv.specs.Reading.{records_from, records_next, strip_bom}
-use Rattle.csv.specs.declared.parser.Action.{Action}
+use Rattle.table_rows.proofs.Words.{◌≡◌, ◌+◌, ◌==◌, ◌∷◌, ◌++◌, ℕ, zero, suc, List, [], Option, Some, None, length, refl, ⊤, AllByRecursion, cond_both}
+use Rattle.table_rows.proofs.Words.{or_parts, Read, after_end, ends_at_end, ends_with, field_after, fields_after, in_field, is_byte, is_end}
+use Rattle.table_rows.proofs.Words.{next_record, start_record, step, records_from, records_next, strip_bom, Action, State, IsInner, IsPlainField}
+use Rattle.table_rows.proofs.Words.{IsReadRow, rows_of, table_config}
 use Rattle.csv.specs.declared.parser.Action.TheVariants as act
-use Rattle.csv.specs.declared.parser.State.{State}
 use Rattle.csv.specs.declared.parser.State.TheVariants as st
-use Rattle.table_rows.specs.Rows.{IsInner, IsPlainField, IsReadRow, rows_of, table_config}
 use Rattle.table_rows.proofs.Texts.{all-append, given}
 
 -- the states that a reader with no quotes has

@@ -1,12 +1,6 @@
 -- The numbers that texts write are within their ranges.
-use Rattle.std.proofs.Common.{◌≡◌, ◌<◌, ◌≤◌, ◌^◌, ℕ, Some, None, length, arith}
-use Rattle.std.proofs.Math.Nat.{pow-le-pow_right}
-use Rattle.std.proofs.lemmas.Bool.{leb-true, and_parts}
-use Rattle.std.proofs.lemmas.Int.Digits.{digits_value-lt}
-use Rattle.std.specs.Prelude.{◌&&◌, nat_le}
-use Rattle.std.specs.List.{list_all}
-use Rattle.std.specs.Str.Parse.{digits_value}
-use Rattle.table_rows.specs.Texts.{Text, decimal_in, hex_in, is_decimal, is_hex_digit}
+use Rattle.table_rows.proofs.Words.{◌≡◌, ◌<◌, ◌≤◌, ◌^◌, ℕ, Some, None, length, arith, pow-le-pow_right, leb-true, and_parts, digits_value-lt, ◌&&◌}
+use Rattle.table_rows.proofs.Words.{nat_le, list_all, digits_value, Text, decimal_in, hex_in, is_decimal, is_hex_digit}
 use Rattle.table_rows.proofs.Numerals.{digits-sixteen}
 use Rattle.table_rows.proofs.Texts.{given}
 

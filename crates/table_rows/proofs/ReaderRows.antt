@@ -1,15 +1,9 @@
 -- What a read of one row leaves of the rows.
-use Rattle.std.proofs.Common.{Bor, ◌≡◌, ◌∙◌, ◌+◌, ◌≤◌, ◌<◌, ◌∷◌, ℕ, zero, suc, List, [], Option, Some, None, Bool, true, false, length, refl, ap, subst, inl, arith}
-use Rattle.std.specs.Prelude.{is_some, not}
-use Rattle.std.proofs.lemmas.Bool.{cond_both}
-use Rattle.csv.specs.Machine.{Read, next_record}
-use Rattle.csv.specs.Reading.{Reached, ReadRecord, is_bom, records_from, records_next, strip_bom, took_first}
-use Rattle.csv.specs.declared.parser.State.{State}
+use Rattle.table_rows.proofs.Words.{Bor, ◌≡◌, ◌∙◌, ◌+◌, ◌≤◌, ◌<◌, ◌∷◌, ℕ, zero, suc, List, [], Option, Some, None, Bool, true, false, length, refl}
+use Rattle.table_rows.proofs.Words.{ap, subst, inl, arith, is_some, not, cond_both, Read, next_record, Reached, ReadRecord, is_bom, records_from}
+use Rattle.table_rows.proofs.Words.{records_next, strip_bom, took_first, State, Reader, rows-end, rows-more, IsAtRow, IsBetweenRows, ReadsRow}
+use Rattle.table_rows.proofs.Words.{bytes_left, is_between, rows_from, rows_left, source, rows_of, table_config}
 use Rattle.csv.specs.declared.parser.State.TheVariants as st
-use Rattle.csv.specs.declared.reader.Reader.{Reader}
-use Rattle.csv.proofs.ReadFacts.{rows-end, rows-more}
-use Rattle.table_rows.specs.Reader.{IsAtRow, IsBetweenRows, ReadsRow, bytes_left, is_between, rows_from, rows_left, source}
-use Rattle.table_rows.specs.Rows.{rows_of, table_config}
 use Rattle.table_rows.proofs.Records.{next-leaves, next-takes}
 
 abbrev Row : Type 0

@@ -1,11 +1,9 @@
 -- Rows that were written by ourselves, with no quotes, are the rows that `csv` reads.
-use Rattle.std.proofs.Common.{◌≡◌, ◌∙◌, ◌+◌, ◌<◌, ◌≤◌, ◌==◌, ◌∷◌, ◌++◌, ℕ, zero, suc, false, List, [], Some, length, refl, ap, arith, append_assoc, append-nil}
-use Rattle.std.specs.List.{AllByRecursion, join_with_byte}
+use Rattle.table_rows.proofs.Words.{◌≡◌, ◌∙◌, ◌+◌, ◌<◌, ◌≤◌, ◌==◌, ◌∷◌, ◌++◌, ℕ, zero, suc, false, List, [], Some, length, refl, ap, arith}
+use Rattle.table_rows.proofs.Words.{append_assoc, append-nil, AllByRecursion, join_with_byte, next_record, records_from, strip_bom, IsPlainField}
+use Rattle.table_rows.proofs.Words.{IsPlainRow, rows_of, rows_text, table_config}
 use Rattle.std.proofs.lemmas.List.{length-append}
-use Rattle.csv.specs.Machine.{next_record}
-use Rattle.csv.specs.Reading.{records_from, strip_bom}
 use Rattle.csv.specs.declared.parser.State.TheVariants as st
-use Rattle.table_rows.specs.Rows.{IsPlainField, IsPlainRow, rows_of, rows_text, table_config}
 
 -- the bytes of a field
 field-run : (fields : List (List ℕ)) (field x tail : List ℕ) → IsPlainField x

@@ -1,10 +1,7 @@
 -- A list that is cut at its first item of a kind.
-use Rattle.std.proofs.Common.{◌≡◌, ◌∙◌, ◌+◌, ◌-◌, ◌∷◌, ℕ, Bool, true, false, List, [], None, Some, cond, length, take, drop, refl, ap, arith, length-drop}
-use Rattle.std.specs.Prelude.{nat_lt, not, position}
-use Rattle.std.specs.List.{onto_first, position_or_len, slice_split}
-use Rattle.std.proofs.lemmas.Bool.{ltb-true, ltb-false, lt-ltb, le-ltb}
-use Rattle.std.proofs.lemmas.List.{take_all}
-use Rattle.std.proofs.lemmas.List.Splits.{slice_split_first}
+use Rattle.table_rows.proofs.Words.{◌≡◌, ◌∙◌, ◌+◌, ◌-◌, ◌∷◌, ℕ, Bool, true, false, List, [], None, Some, cond, length, take, drop, refl, ap, arith}
+use Rattle.table_rows.proofs.Words.{length-drop, nat_lt, not, position, onto_first, position_or_len, slice_split, ltb-true, ltb-false, lt-ltb, le-ltb}
+use Rattle.table_rows.proofs.Words.{take_all, slice_split_first}
 
 pub split-cut : {X : Type 0} (p : X → Bool) (xs : List X) (d : X) (n : ℕ) → position p xs ≡ Some n → slice_split p xs ≡ take n xs ∷ slice_split p (drop (n + 1) xs)
 split-cut p xs d n h = go (nat_lt (position_or_len p xs) (length xs)) refl h

@@ -1,8 +1,6 @@
 -- The rows of a table that were taken, and those that are left.
-use Rattle.std.proofs.Common.{◌≡◌, ◌∙◌, ◌+◌, ◌∷◌, ◌++◌, ℕ, List, [], Option, None, length, map, refl, sym, subst, arith, append_assoc, append-nil, length-append}
-use Rattle.std.specs.Prelude.{Result, Ok, Err}
-use Rattle.table_rows.specs.Tables.{RefusesTable, TakesRow, fault_at, first_fault}
-use Rattle.table_rows.specs.declared.fault.RowRefusal.{RowRefusal}
+use Rattle.table_rows.proofs.Words.{◌≡◌, ◌∙◌, ◌+◌, ◌∷◌, ◌++◌, ℕ, List, [], Option, None, length, map, refl, sym, subst, arith, append_assoc}
+use Rattle.table_rows.proofs.Words.{append-nil, length-append, Result, Ok, Err, RefusesTable, TakesRow, fault_at, first_fault, RowRefusal}
 use Rattle.table_rows.specs.declared.fault.RowRefusal.TheVariants as refusal
 
 -- what a loop over rows keeps, with as many rows taken and these left

@@ -1,15 +1,9 @@
 -- Texts with no blanks at their ends, and the texts of numbers.
 use Rattle.std.proofs.Common.{◌≡◌, ◌∙◌, ◌<◌, ◌≤◌, ◌^◌, ◌∷◌, ◌++◌, ℕ, Bool, true, false, not, List, [], length, reverse, refl, sym, ap, subst, arith, tests, decimal}
 use Rattle.std.specs.Prelude.{⊤, ◌||◌, Option, Some, None, if◌then◌else◌}
-use Rattle.std.specs.Option.{option_map_or}
-use Rattle.std.proofs.lemmas.List.{reverse-append, reverse-reverse}
-use Rattle.std.proofs.lemmas.Bool.{and_from, cond_both, or_parts}
-use Rattle.std.proofs.lemmas.Fmt.{decimal_is_IsNumeral}
-use Rattle.std.proofs.lemmas.Str.Parse.{digit_from_value}
-use Rattle.std.specs.List.{AllByRecursion, list_all, list_any}
-use Rattle.std.specs.Str.Parse.{AllDigits, digits_value}
-use Rattle.table_rows.specs.Tables.{NoTwo}
-use Rattle.table_rows.specs.Texts.{Text, is_blank, is_digit, is_empty, is_numeral, trimmed, without_front}
+use Rattle.table_rows.proofs.Words.{option_map_or, reverse-append, reverse-reverse, and_from, cond_both, or_parts, decimal_is_IsNumeral}
+use Rattle.table_rows.proofs.Words.{digit_from_value, AllByRecursion, list_all, list_any, AllDigits, digits_value, NoTwo, Text, is_blank, is_digit}
+use Rattle.table_rows.proofs.Words.{is_empty, is_numeral, trimmed, without_front}
 
 pub all-append : {X : Type 0} (P : X → Type 0) (xs ys : List X) → AllByRecursion P xs → AllByRecursion P ys → AllByRecursion P (xs ++ ys)
 all-append P [] ys h k = k

@@ -1,9 +1,7 @@
 -- Trimming a field, byte by byte.
-use Rattle.std.proofs.Common.{◌≡◌, ◌<◌, ◌+◌, ◌∷◌, ℕ, List, [], true, false, length, take, drop, get_or, refl}
-use Rattle.std.proofs.lemmas.List.{drop_more, take_more, reverse-append, reverse-reverse}
+use Rattle.table_rows.proofs.Words.{◌≡◌, ◌<◌, ◌+◌, ◌∷◌, ℕ, List, [], true, false, length, take, drop, get_or, refl, drop_more, take_more}
+use Rattle.table_rows.proofs.Words.{reverse-append, reverse-reverse, field_at, is_blank, without_front}
 use Rattle.std.specs.Prelude.{reverse, slice_get, zero, suc}
-use Rattle.csv.specs.Records.{field_at}
-use Rattle.table_rows.specs.Texts.{is_blank, without_front}
 
 pub front-blank : (xs : List ℕ) (i : ℕ) → i < length xs → is_blank (get_or xs i 0) ≡ true → without_front (drop i xs) ≡ without_front (drop (i + 1) xs)
 unfolding without_front

@@ -1,28 +1,24 @@
 -- A core in which a set that does not run is changed: its settings, its events, and whether it is there.
-use Rattle.thread_core.proofs.Words.{Option, Occ, ℕ, List, Kept, ◌≡◌, false, weighed, ◌-◌, arith, refl, total, length, ◌∙◌, sym, ap, clock, Book, Native}
-use Rattle.thread_core.proofs.Words.{measured, None, weight_of, Some, Turns, estimated_in, ap₂, estimate, active, weight_in_turn, map, replicate, [], ◌∷◌}
-use Rattle.thread_core.proofs.Words.{set_natives, Widths, slot_of, Slot, kept_after, Err, map_same, CoreView, Account, at, slot_faces, Bool, Face, Code}
-use Rattle.thread_core.proofs.Words.{code_before, refusal_of, Plain, is_absent, Enoevst, nat_le, runs, Ok, AtRest, option_map, here, not, Einval, Ecombo}
-use Rattle.thread_core.proofs.Words.{is_multiplexed, EventRef, if◌then◌else◌, is_some, AgreesWith, ◌<◌, is_on_sets, true, IsFor, IsGood, sets_after}
-use Rattle.thread_core.proofs.Words.{new_kept, change, reply_over, sight_of_kept, plain, Follows, Result, slice_set, subst, rest_code, Refusal, IsNamed, added}
-use Rattle.thread_core.proofs.Words.{refused, list_all, free, slice_get, ◌+◌, suc, done, map_put, slot_after, changing_call, change_refusal, lacks_component, Enocmp}
-use Rattle.thread_core.proofs.Words.{Eisrun, Ecount, has_event, is_other, is_bad_domain, is_bad_slice, is_armed, cannot_arm, is_bad_threshold, shares_native}
-use Rattle.thread_core.proofs.Words.{cannot_take, is_full, clash_with, conflict_of, Conflict, ⊤, OnOk, IfErr, OnErr, changed_reply, new_slot, free_map}
-use Rattle.thread_core.proofs.Words.{slot_with_event, slot_with, counting_by, set-same, at-some, face_of}
+use Rattle.thread_core.proofs.Words.{Option, Occ, ℕ, List, Kept, ◌≡◌, false, weighed, ◌-◌, arith, refl, total, length, ◌∙◌, sym, ap, clock, Book}
+use Rattle.thread_core.proofs.Words.{Native, measured, None, weight_of, Some, Turns, estimated_in, ap₂, estimate, active, weight_in_turn, map}
+use Rattle.thread_core.proofs.Words.{replicate, [], ◌∷◌, set_natives, Widths, slot_of, Slot, kept_after, Err, map_same, CoreView, Account, at}
+use Rattle.thread_core.proofs.Words.{slot_faces, Bool, Face, Code, code_before, refusal_of, Plain, is_absent, Enoevst, nat_le, runs, Ok, AtRest}
+use Rattle.thread_core.proofs.Words.{option_map, here, not, Einval, Ecombo, is_multiplexed, EventRef, if◌then◌else◌, is_some, AgreesWith, ◌<◌}
+use Rattle.thread_core.proofs.Words.{is_on_sets, true, IsFor, IsGood, sets_after, new_kept, change, reply_over, sight_of_kept, plain, Follows, Result}
+use Rattle.thread_core.proofs.Words.{slice_set, subst, rest_code, Refusal, IsNamed, added, refused, list_all, free, slice_get, ◌+◌, suc, done}
+use Rattle.thread_core.proofs.Words.{map_put, slot_after, changing_call, change_refusal, lacks_component, Enocmp, Eisrun, Ecount, has_event, is_other}
+use Rattle.thread_core.proofs.Words.{is_bad_domain, is_bad_slice, is_armed, cannot_arm, is_bad_threshold, shares_native, cannot_take, is_full}
+use Rattle.thread_core.proofs.Words.{clash_with, conflict_of, Conflict, ⊤, OnOk, IfErr, OnErr, changed_reply, new_slot, free_map, slot_with_event}
+use Rattle.thread_core.proofs.Words.{slot_with, counting_by, set-same, at-some, face_of, set_view, Change, add_refusal, Clash, splat_is_map}
 use Rattle.session_model.specs.declared.reply.Body.TheVariants as body
 use Rattle.call_type.specs.declared.call.Call.TheVariants as call
 use Rattle.papi_base.specs.declared.code.Code.TheVariants as code
 use Rattle.thread_slots.specs.declared.changing.Change.TheVariants as made
-use Rattle.event_sets.specs.Sets.{set_view}
 use Rattle.thread_core.proofs.Squares.{slot_of-stopped}
-use Rattle.thread_slots.specs.declared.changing.Change.{Change}
 use Rattle.thread_core.proofs.Looking.{named, Under, under, runs_as, put_follows, units_rest, row_off}
 use Rattle.thread_slots.specs.declared.slot.Counting.TheVariants as counting
 use Rattle.thread_core.proofs.Following.{faces_stand, check_comes, codes_refuse, check_fails, none_comes, all_some_of_map, refused_follows, with_both, Goes, done_follows}
-use Rattle.event_sets.specs.Adding.{add_refusal}
-use Rattle.event_sets.specs.declared.refusal.Clash.{Clash}
 use Rattle.thread_core.proofs.Owners.{quiet_stopped}
-use Rattle.std.proofs.lemmas.Simd.{splat_is_map}
 
 -- ---- what is held
 

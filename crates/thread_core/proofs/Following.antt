@@ -1,16 +1,14 @@
 -- A core that did what its refusals and its sets say follows each account that it stands for.
-use Rattle.thread_core.proofs.Words.{Bool, List, map, ◌≡◌, [], refl, ◌∷◌, ap, Option, list_all, is_some, option_map, None, Some, ◌&&◌, Code, Plain, first_code}
-use Rattle.thread_core.proofs.Words.{first_of, row, true, false, ℕ, option_map_or, slice_get, zero, suc, Refusal, if◌then◌else◌, ℤ, Enoevst, Enotrun}
-use Rattle.thread_core.proofs.Words.{values_reply, plain, subst, Book, CoreView, Account, CoreStands, slot_faces, faces_of, ◌∙◌, Call, refusal_of}
-use Rattle.thread_core.proofs.Words.{account_refusal, ap₂, Reply, AgreesWith, refused, Follows, sym, StepOutcome, step, unless, performed, Widths, is_on_sets}
-use Rattle.thread_core.proofs.Words.{sets_after, new_kept, kept_after, reply_over, sight_of_kept, UnitView, Slot, Kept, slots_of, units_of, AreApart, IsGood}
-use Rattle.thread_core.proofs.Words.{length, AllWithin, AreFit, time_after, IsRefusedWith, within_stays, apart_stays, fit_stays}
+use Rattle.thread_core.proofs.Words.{Bool, List, map, ◌≡◌, [], refl, ◌∷◌, ap, Option, list_all, is_some, option_map, None, Some, ◌&&◌, Code, Plain}
+use Rattle.thread_core.proofs.Words.{first_code, first_of, row, true, false, ℕ, option_map_or, slice_get, zero, suc, Refusal, if◌then◌else◌, ℤ}
+use Rattle.thread_core.proofs.Words.{Enoevst, Enotrun, values_reply, plain, subst, Book, CoreView, Account, CoreStands, slot_faces, faces_of, ◌∙◌}
+use Rattle.thread_core.proofs.Words.{Call, refusal_of, account_refusal, ap₂, Reply, AgreesWith, refused, Follows, sym, StepOutcome, step, unless}
+use Rattle.thread_core.proofs.Words.{performed, Widths, is_on_sets, sets_after, new_kept, kept_after, reply_over, sight_of_kept, UnitView, Slot, Kept}
+use Rattle.thread_core.proofs.Words.{slots_of, units_of, AreApart, IsGood, length, AllWithin, AreFit, time_after, IsRefusedWith, within_stays}
+use Rattle.thread_core.proofs.Words.{apart_stays, fit_stays, places_stay, core_of, Inside}
 use Rattle.papi_base.specs.declared.code.Code.TheVariants as code
 use Rattle.call_type.specs.declared.call.Call.TheVariants as call
 use Rattle.thread_core.proofs.Owners.{faces_same}
-use Rattle.session_model.proofs.Counted.{places_stay}
-use Rattle.thread_core.specs.CoreView.{core_of}
-use Rattle.thread_core.specs.declared.thread.Core.TheInside.{Inside}
 
 -- ---- tables of refusals: the first check that holds, and what is known if none does
 

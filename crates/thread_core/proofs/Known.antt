@@ -1,13 +1,9 @@
 -- What is known of the sets that run stays true.
-use Rattle.papi_base.specs.declared.limits.TheConstants.{MOST_OCCURRENCES}
-use Rattle.thread_core.proofs.Words.{StepOutcome, List, Option, ℕ, Slot, ◌≡◌, replicate, None, sym, ap, slice_get, ◌∙◌, Some, zero, suc, Book, CoreView, Account}
-use Rattle.thread_core.proofs.Words.{CoreStands, faces_of, owner_from, Occ, CountedAll, ◌≤◌, time_after, AgreesWith, counted_all, consumed, refl, slot_faces}
-use Rattle.thread_core.proofs.Words.{◌<◌, length, arith, Kept, face_of, change, [], ◌∷◌, option_map, Call, Reply, is_on_sets, true, sets_after, new_kept}
-use Rattle.thread_core.proofs.Words.{kept_after, Follows, step, subst}
-use Rattle.std.proofs.Common.{◌⊎◌, inl, inr, get_or, set, map}
-use Rattle.std.specs.Option.{option_map_or}
-use Rattle.std.proofs.lemmas.Bool.{ne_eqb}
-use Rattle.thread_core.specs.Running.{AreKnown, told_by}
+use Rattle.thread_core.proofs.Words.{MOST_OCCURRENCES, StepOutcome, List, Option, ℕ, Slot, ◌≡◌, replicate, None, sym, ap, slice_get, ◌∙◌, Some, zero}
+use Rattle.thread_core.proofs.Words.{suc, Book, CoreView, Account, CoreStands, faces_of, owner_from, Occ, CountedAll, ◌≤◌, time_after, AgreesWith}
+use Rattle.thread_core.proofs.Words.{counted_all, consumed, refl, slot_faces, ◌<◌, length, arith, Kept, face_of, change, [], ◌∷◌, option_map, Call}
+use Rattle.thread_core.proofs.Words.{Reply, is_on_sets, true, sets_after, new_kept, kept_after, Follows, step, subst, ◌⊎◌, inl, inr, get_or, set, map}
+use Rattle.thread_core.proofs.Words.{option_map_or, ne_eqb, AreKnown, told_by}
 use Rattle.thread_core.proofs.Following.{faces_stand, Goes, step_is}
 use Rattle.thread_core.proofs.Taking.{after_taking, taken_stands, countable}
 use Rattle.thread_core.proofs.Owners.{length-units}

@@ -1,20 +1,14 @@
 -- The set under a number, in the core and in the account, and calls that show something of it or put it anew.
-use Rattle.thread_core.proofs.Words.{Book, CoreView, Account, ℕ, CoreStands, at, ◌≡◌, option_map, slot_of, ap, ◌∙◌, at_map, Kept, Some, IsFit, at-some, Call}
-use Rattle.thread_core.proofs.Words.{option_map_or, slice_get, slot_faces, false, face_of, ◌<◌, length, is_absent, refl, Option, None, true, sym, Face, is_none}
-use Rattle.thread_core.proofs.Words.{here, slice_get_within, runs, Slot, same_some, AgreesWith, arith, Widths, AtRest, List, widths_at, get_at, unwrap_or, []}
-use Rattle.thread_core.proofs.Words.{unit_at, UnitView, registers_by, Reply, IsGood, is_on_sets, sets_after, new_kept, kept_after, reply_over, sight_of_kept}
-use Rattle.thread_core.proofs.Words.{Follows, done, slice_set, AreApart, faces_of, units_of, change, map_put, subst, runner, ap₂}
-use Rattle.thread_core.proofs.Words.{time_after, clock, face_of_slot, get_or, get-set_same, Refusal, refusal_of, if◌then◌else◌, Plain, Enoevst, plain}
-use Rattle.thread_slots.proofs.Lists.{at_read}
-use Rattle.thread_core.specs.Refusing.{IsThere}
+use Rattle.thread_core.proofs.Words.{Book, CoreView, Account, ℕ, CoreStands, at, ◌≡◌, option_map, slot_of, ap, ◌∙◌, at_map, Kept, Some, IsFit}
+use Rattle.thread_core.proofs.Words.{at-some, Call, option_map_or, slice_get, slot_faces, false, face_of, ◌<◌, length, is_absent, refl, Option, None}
+use Rattle.thread_core.proofs.Words.{true, sym, Face, is_none, here, slice_get_within, runs, Slot, same_some, AgreesWith, arith, Widths, AtRest, List}
+use Rattle.thread_core.proofs.Words.{widths_at, get_at, unwrap_or, [], unit_at, UnitView, registers_by, Reply, IsGood, is_on_sets, sets_after}
+use Rattle.thread_core.proofs.Words.{new_kept, kept_after, reply_over, sight_of_kept, Follows, done, slice_set, AreApart, faces_of, units_of, change}
+use Rattle.thread_core.proofs.Words.{map_put, subst, runner, ap₂, time_after, clock, face_of_slot, get_or, get-set_same, Refusal, refusal_of}
+use Rattle.thread_core.proofs.Words.{if◌then◌else◌, Plain, Enoevst, plain, at_read, IsThere, rows, row_fails, Body, shown, clock_now}
 use Rattle.session_model.specs.declared.reply.Body.TheVariants as body
 use Rattle.thread_core.proofs.Following.{Allowed, faces_stand, done_follows, Goes, with_both, refused_follows}
-use Rattle.session_model.specs.Refusals.{rows}
-use Rattle.session_model.proofs.Sets.{row_fails}
 use Rattle.thread_core.proofs.Owners.{length-units, get-units, unit_by-runner, units_same, unit_stays, units_put, runner_is, runs_there, IsQuiet, quiet_other}
-use Rattle.session_model.specs.declared.reply.Body.{Body}
-use Rattle.session_model.specs.Replies.{shown}
-use Rattle.session_model.proofs.Pushing.{clock_now}
 
 pub slot_at : (book : Book) (core : CoreView) (a : Account) (k : ℕ) → CoreStands book core a
     → at core.slots k ≡ option_map (slot_of book core.shape a.past) (at a.sets k)

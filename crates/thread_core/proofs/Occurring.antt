@@ -3,16 +3,13 @@ use Rattle.thread_core.proofs.Words.{Book, Widths, List, Occ, Kept, slot_of, ◌
 use Rattle.thread_core.proofs.Words.{runs_on, Some, face_of, false, cases_Bool, ◌≤◌, arith, ◌⊎◌, inl, runs, ap, ◌∙◌, inr, Option, AreFit, AllWithin}
 use Rattle.thread_core.proofs.Words.{Register, sym, owner_from, faces_of, refl, registers_by, runner, None, same_some, CountedAll, units_of, slots_of}
 use Rattle.thread_core.proofs.Words.{notes_at, map, note, slice_get, ◌+◌, suc, zero, map_same_on, option_map, cases_eq, unit_at, widths_at, unwrap_or}
-use Rattle.thread_core.proofs.Words.{IsShape, AreApart, counted_over, last_after, subst, get_at, get-map_some, Counted, counted_at, Slot, counted_place}
-use Rattle.thread_core.proofs.Words.{some-at, here, slice_set, slice_get_within, if◌then◌else◌, ◌==◌, ne_eqb, Bool, passed_from, counted_all}
-use Rattle.session_model.specs.Thresholds.{passed_in}
+use Rattle.thread_core.proofs.Words.{IsShape, AreApart, counted_over, last_after, subst, get_at, get-map_some, Counted, counted_at, Slot}
+use Rattle.thread_core.proofs.Words.{counted_place, some-at, here, slice_set, slice_get_within, if◌then◌else◌, ◌==◌, ne_eqb, Bool, passed_from}
+use Rattle.thread_core.proofs.Words.{counted_all, passed_in, Note, get-map, append-nil}
 use Rattle.thread_core.proofs.Squares.{elsewhere, slot_elsewhere, passing_elsewhere, registers_elsewhere, stopped_stays, unit_by, after, counted_follows}
 use Rattle.thread_core.proofs.Owners.{IsSameUnit, units_same, get-units, units_put, put_as, runner-none, runs_by, quiet_other, runner-some, quiet_none, Runs, other_runs, faces_same}
 use Rattle.thread_core.proofs.Weighing.{within_at}
-use Rattle.overflow_dispatch.specs.declared.handler.Note.{Note}
 use Rattle.thread_slots.specs.Counted.{uncounted, CountedPlace, placed}
-use Rattle.thread_slots.proofs.Lists.{get-map}
-use Rattle.std.proofs.lemmas.List.{append-nil}
 
 -- a set that does not run on the component of the occurrence is kept as it is, and passes no threshold
 pub record Stays (book : Book) (shape : Widths) (past : List Occ) (o : Occ) (s : Kept) : Type 0 where

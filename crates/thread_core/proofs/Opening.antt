@@ -1,9 +1,8 @@
 -- A new core stands for each opening account of its thread.
-use Rattle.thread_core.proofs.Words.{ℕ, replicate, None, ◌≡◌, refl, ◌+◌, Book, Widths, List, Occ, ap, ◌∷◌, units_from, map, empty_unit, [], UnitView, IsShape}
-use Rattle.thread_core.proofs.Words.{CoreStands, sym, BookFits, AgreesWith, arith, done, slice_get, Some, ◌++◌, drop, ◌∙◌, ◌<◌, inl, inr, subst, opening_core}
-use Rattle.thread_core.proofs.Words.{opening, append_assoc, drop_at, cases_lt, opening_within, opening_apart, opening_fits}
-use Rattle.papi_base.specs.declared.limits.TheConstants.{MOST_SETS}
-use Rattle.papi_base.specs.Streams.{Mark}
+use Rattle.thread_core.proofs.Words.{ℕ, replicate, None, ◌≡◌, refl, ◌+◌, Book, Widths, List, Occ, ap, ◌∷◌, units_from, map, empty_unit, [], UnitView}
+use Rattle.thread_core.proofs.Words.{IsShape, CoreStands, sym, BookFits, AgreesWith, arith, done, slice_get, Some, ◌++◌, drop, ◌∙◌, ◌<◌, inl, inr}
+use Rattle.thread_core.proofs.Words.{subst, opening_core, opening, append_assoc, drop_at, cases_lt, opening_within, opening_apart, opening_fits}
+use Rattle.thread_core.proofs.Words.{MOST_SETS, Mark}
 
 no_units : (book : Book) (past : List Occ) (comp : ℕ) (shape : Widths) → units_from book past (replicate MOST_SETS None) comp shape ≡ map empty_unit shape
 no_units book past comp [] = refl

@@ -1,15 +1,11 @@
 -- The natives of a running set on its component's unit.
-use Rattle.thread_core.proofs.Words.{ℕ, period, suc, ◌≡◌, ◌==◌, false, arith, cond-false, ◌^◌, start, zero, ap, ◌-◌, ◌+◌, Book, CoreView, Account, Kept}
-use Rattle.thread_core.proofs.Words.{List, CoreStands, slice_get, Some, at_place, running_registers, None, option_and_then, UnitView, ◌∙◌, Option, get_or}
-use Rattle.thread_core.proofs.Words.{widths_at, threshold_among, register_at, count, refl, sym, owner_from, faces_of, option_map, unit_at, Register}
-use Rattle.thread_core.proofs.Words.{registers_by, at_place-replicate, length, some-at}
-use Rattle.std.proofs.lemmas.Bool.Decides.{nat_tests}
-use Rattle.counter_unit.specs.Counting.{beginning}
-use Rattle.std.proofs.Common.{◌%◌}
-use Rattle.thread_core.specs.Registers.{reg, CountsOn, programmed, EachIsCounted, NoOtherIsProgrammed, NothingIsProgrammed}
+use Rattle.thread_core.proofs.Words.{ℕ, period, suc, ◌≡◌, ◌==◌, false, arith, cond-false, ◌^◌, start, zero, ap, ◌-◌, ◌+◌, Book, CoreView, Account}
+use Rattle.thread_core.proofs.Words.{Kept, List, CoreStands, slice_get, Some, at_place, running_registers, None, option_and_then, UnitView, ◌∙◌}
+use Rattle.thread_core.proofs.Words.{Option, get_or, widths_at, threshold_among, register_at, count, refl, sym, owner_from, faces_of, option_map}
+use Rattle.thread_core.proofs.Words.{unit_at, Register, registers_by, at_place-replicate, length, some-at, nat_tests, beginning, ◌%◌, reg, CountsOn}
+use Rattle.thread_core.proofs.Words.{programmed, EachIsCounted, NoOtherIsProgrammed, NothingIsProgrammed, sum_is}
 use Rattle.thread_core.proofs.Looking.{unit_on, fit_of, widths_on}
 use Rattle.thread_core.proofs.RawRegisters.{register_on-counter, no_register-on}
-use Rattle.counter_unit.proofs.Counts.{sum_is}
 use Rattle.thread_core.proofs.Weighing.{count_fits}
 use Rattle.thread_core.proofs.Owners.{get-units, runner-none, runs_by}
 

@@ -1,24 +1,20 @@
 -- A core that shows the register of a counter.
-use Rattle.thread_core.proofs.Words.{ℕ, List, list_any, ◌==◌, ◌≡◌, true, slice_get, position_or_len, Some, [], ◌∷◌, refl, Bool, ap, eqb-true, false, ◌+◌, suc}
-use Rattle.thread_core.proofs.Words.{arith, ◌||◌, subst, sym, eq-eqb, ◌∙◌, Option, Refusal, Reply, Result, Code, Ok, None, done, Err, Plain, free}
-use Rattle.thread_core.proofs.Words.{if◌then◌else◌, not, Enotrun, Einval, Ecombo, Book, Widths, Face, is_none, Enoevst, option_map_or, is_multiplexed, Occ}
-use Rattle.thread_core.proofs.Words.{Kept, Native, IsFit, widths_at, set_natives, counters_for, at_place, running_registers, register_at, get_or}
-use Rattle.thread_core.proofs.Words.{threshold_among, count, plain, Pin, ArePinned, pins_of, pinned, Register, programs-at, replicate, length, length-replicate}
-use Rattle.thread_core.proofs.Words.{get-pins_from, slice_get_within, get_at, placed, pin_made, at_place-replicate, CoreView, Account, CoreStands, at, face_of}
-use Rattle.thread_core.proofs.Words.{cases_Bool, option_and_then, ap₂, ◌⊎◌, inl, inr, nat_le, UnitView, cond-true, cond-false, account_refusal, reply_over}
-use Rattle.thread_core.proofs.Words.{sight_of_kept, Slot, option_map, at_map, subst₂, AgreesWith, Follows, refusal_of, slot_faces, refused, face_of_slot}
+use Rattle.thread_core.proofs.Words.{ℕ, List, list_any, ◌==◌, ◌≡◌, true, slice_get, position_or_len, Some, [], ◌∷◌, refl, Bool, ap, eqb-true, false}
+use Rattle.thread_core.proofs.Words.{◌+◌, suc, arith, ◌||◌, subst, sym, eq-eqb, ◌∙◌, Option, Refusal, Reply, Result, Code, Ok, None, done, Err, Plain}
+use Rattle.thread_core.proofs.Words.{free, if◌then◌else◌, not, Enotrun, Einval, Ecombo, Book, Widths, Face, is_none, Enoevst, option_map_or}
+use Rattle.thread_core.proofs.Words.{is_multiplexed, Occ, Kept, Native, IsFit, widths_at, set_natives, counters_for, at_place, running_registers}
+use Rattle.thread_core.proofs.Words.{register_at, get_or, threshold_among, count, plain, Pin, ArePinned, pins_of, pinned, Register, programs-at}
+use Rattle.thread_core.proofs.Words.{replicate, length, length-replicate, get-pins_from, slice_get_within, get_at, placed, pin_made}
+use Rattle.thread_core.proofs.Words.{at_place-replicate, CoreView, Account, CoreStands, at, face_of, cases_Bool, option_and_then, ap₂, ◌⊎◌, inl, inr}
+use Rattle.thread_core.proofs.Words.{nat_le, UnitView, cond-true, cond-false, account_refusal, reply_over, sight_of_kept, Slot, option_map, at_map}
+use Rattle.thread_core.proofs.Words.{subst₂, AgreesWith, Follows, refusal_of, slot_faces, refused, face_of_slot, has_counter, leaves_free}
+use Rattle.thread_core.proofs.Words.{leaves_free_by, register_value, register_shown, register_on, register_by, register_of, programs-other, has}
+use Rattle.thread_core.proofs.Words.{le-leb, reply_of}
 use Rattle.session_model.specs.declared.reply.Body.TheVariants as body
 use Rattle.call_type.specs.declared.call.Call.TheVariants as call
 use Rattle.thread_core.proofs.Owners.{face_same}
 use Rattle.thread_core.proofs.Starting.{none_any}
-use Rattle.session_model.specs.Refusals.{has_counter, leaves_free, leaves_free_by}
-use Rattle.thread_slots.specs.RawRegister.{register_value, register_shown, register_on, register_by}
-use Rattle.session_model.specs.Registers.{register_of}
-use Rattle.thread_slots.proofs.Programs.{programs-other}
 use Rattle.thread_core.proofs.Looking.{fit_of, widths_on, unit_on, under, looks_follows}
-use Rattle.session_model.specs.Faces.{has}
-use Rattle.std.proofs.lemmas.Bool.{le-leb}
-use Rattle.thread_core.specs.Following.{reply_of}
 use Rattle.thread_core.proofs.Following.{refusal_stands, refused_follows}
 
 -- the counter is in the list, or it is not

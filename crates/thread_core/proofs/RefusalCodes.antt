@@ -1,20 +1,9 @@
 -- The refusals of an added event are not PAPI_OK.
-use Rattle.std.proofs.Common.{◌≡◌, inl, inr, ℕ, Bool, true, false, List, Option, Some, None, Result, Ok, Err, subst}
+use Rattle.thread_core.proofs.Words.{◌≡◌, inl, inr, ℕ, Bool, true, false, List, Option, Some, None, Result, Ok, Err, subst, Code, Einval, Ecount}
+use Rattle.thread_core.proofs.Words.{Eisrun, Enoevst, EventRef, IsNameCode, IsNamed, Book, Clash, Refusal, Plain, Conflict, add_refusal, AtRest}
+use Rattle.thread_core.proofs.Words.{Widths, cannot_take, clash_with, is_full, Face, is_absent, runs, IsRefusal, rest_code}
 use Rattle.std.specs.Prelude.{IfErr, if◌then◌else◌, ⊤}
 use Rattle.std.specs.Option.{option_map}
-use Rattle.papi_base.specs.declared.code.Code.{Code}
-use Rattle.papi_base.specs.declared.code.Code.TheVariants.{Einval, Ecount, Eisrun, Enoevst}
-use Rattle.papi_base.specs.declared.native.EventRef.{EventRef}
-use Rattle.postfix_rules.specs.Fitting.{IsNameCode, IsNamed}
-use Rattle.postfix_rules.specs.Presets.{Book}
-use Rattle.event_sets.specs.declared.refusal.Clash.{Clash}
-use Rattle.event_sets.specs.declared.refusal.Refusal.{Refusal}
-use Rattle.event_sets.specs.declared.refusal.Refusal.TheVariants.{Plain, Conflict}
-use Rattle.event_sets.specs.Adding.{add_refusal}
-use Rattle.event_sets.specs.AtRest.{AtRest, Widths, cannot_take, clash_with, is_full}
-use Rattle.session_model.specs.Faces.{Face, is_absent, runs}
-use Rattle.thread_core.specs.Following.{IsRefusal}
-use Rattle.thread_core.specs.Refusing.{rest_code}
 
 -- before the set at rest is asked
 pub rest_refusal : (faces : List (Option Face)) (k : ℕ) (c : Code) → rest_code faces k ≡ Some c → IsRefusal (Plain c)

@@ -1,36 +1,28 @@
 -- The numbers and the values that a core shows are those of the account: PAPI_read(3).
-use Rattle.papi_base.specs.declared.limits.TheConstants.{MOST_OCCURRENCES}
-use Rattle.thread_core.proofs.Words.{Option, Occ, ℕ, List, Rises, time_after, ◌≤◌, last_after, take, zero, arith, suc, [], ◌∷◌, Some, Native, ◌≡◌, None, All}
-use Rattle.thread_core.proofs.Words.{refl, all_at, sym, ◌∙◌, Book, CoreView, Slot, numbers_shown, Account, Kept, CoreStands, at, true, option_and_then}
-use Rattle.thread_core.proofs.Words.{slice_get, map, count, set_natives, plain, ap, replicate, length, UnitView, registers_by, running_registers, pins_of}
-use Rattle.thread_core.proofs.Words.{subst, ArePinned, pinned, Register, at_place, programs-at, length-replicate, counters_for, placed, ◌-◌, clock, total, ap₂}
-use Rattle.thread_core.proofs.Words.{cond-true, slot_of, measured, false, inr, cond-false, inl, numbers_of, turns_of, rotation_of, turned, get_or}
-use Rattle.thread_core.proofs.Words.{position_or_len, same_native, AtRest, EventRef, event_value, number_in, map_same_on, get_position, get_or_from_slice_get}
-use Rattle.thread_core.proofs.Words.{get-map_some, values_shown, values_of, ◌*◌, estimate, cases_eq, ◌==◌, ◌/◌, eq-eqb, ne_eqb, ◌+◌, ◌<◌, ◌^◌, IsWithin}
-use Rattle.thread_core.proofs.Words.{weight_of, groups, masks_of, weighed, weight_in_turn, active, Turns, AgreesWith, length-map, at-some, end}
-use Rattle.thread_core.proofs.Words.{same_some, RotationView, subst₂, ℤ, Follows, done, Face, option_map_or, is_multiplexed, unit_numbers}
-use Rattle.thread_core.proofs.Words.{turn_numbers, IsTellable, IsInTurns, position_is, rule_of_event, natives_of_event, pos, state_bits, assigned}
-use Rattle.thread_core.proofs.Words.{face_of_slot, is_counting, AreOnUnit, HasUnit, AreWidths, IsFit, widths_at, get_at, unwrap_or, is_none, is_some, Refusal}
-use Rattle.thread_core.proofs.Words.{if◌then◌else◌, Plain, Enoevst, Ecombo, Bool, refusal_of, slot_faces, rested, Widths}
+use Rattle.thread_core.proofs.Words.{MOST_OCCURRENCES, Option, Occ, ℕ, List, Rises, time_after, ◌≤◌, last_after, take, zero, arith, suc, [], ◌∷◌}
+use Rattle.thread_core.proofs.Words.{Some, Native, ◌≡◌, None, All, refl, all_at, sym, ◌∙◌, Book, CoreView, Slot, numbers_shown, Account, Kept}
+use Rattle.thread_core.proofs.Words.{CoreStands, at, true, option_and_then, slice_get, map, count, set_natives, plain, ap, replicate, length}
+use Rattle.thread_core.proofs.Words.{UnitView, registers_by, running_registers, pins_of, subst, ArePinned, pinned, Register, at_place, programs-at}
+use Rattle.thread_core.proofs.Words.{length-replicate, counters_for, placed, ◌-◌, clock, total, ap₂, cond-true, slot_of, measured, false, inr}
+use Rattle.thread_core.proofs.Words.{cond-false, inl, numbers_of, turns_of, rotation_of, turned, get_or, position_or_len, same_native, AtRest}
+use Rattle.thread_core.proofs.Words.{EventRef, event_value, number_in, map_same_on, get_position, get_or_from_slice_get, get-map_some, values_shown}
+use Rattle.thread_core.proofs.Words.{values_of, ◌*◌, estimate, cases_eq, ◌==◌, ◌/◌, eq-eqb, ne_eqb, ◌+◌, ◌<◌, ◌^◌, IsWithin, weight_of, groups}
+use Rattle.thread_core.proofs.Words.{masks_of, weighed, weight_in_turn, active, Turns, AgreesWith, length-map, at-some, end, same_some, RotationView}
+use Rattle.thread_core.proofs.Words.{subst₂, ℤ, Follows, done, Face, option_map_or, is_multiplexed, unit_numbers, turn_numbers, IsTellable, IsInTurns}
+use Rattle.thread_core.proofs.Words.{position_is, rule_of_event, natives_of_event, pos, state_bits, assigned, face_of_slot, is_counting, AreOnUnit}
+use Rattle.thread_core.proofs.Words.{HasUnit, AreWidths, IsFit, widths_at, get_at, unwrap_or, is_none, is_some, Refusal, if◌then◌else◌, Plain}
+use Rattle.thread_core.proofs.Words.{Enoevst, Ecombo, Bool, refusal_of, slot_faces, rested, Widths, places_of, IsPlaced, pins_show, pins_natives}
+use Rattle.thread_core.proofs.Words.{turns_show, rule_value, each_is_among, is_among, div-le_of_le-mul, counts_per_tick, All-map, Assigned}
+use Rattle.thread_core.proofs.Words.{NUMBER_BITS}
 use Rattle.session_model.specs.declared.reply.Body.TheVariants as body
 use Rattle.call_type.specs.declared.call.Call.TheVariants as call
 use Rattle.thread_core.proofs.Squares.{numbers-length, kept_as, kept_cases}
 use Rattle.thread_core.proofs.Looking.{face_at, fit_of, widths_on, unit_on, unit_of, now_is, under, shows_follows}
-use Rattle.thread_slots.specs.EventPlaces.{places_of}
-use Rattle.thread_slots.specs.Shown.{IsPlaced}
 use Rattle.thread_slots.specs.declared.slot.Counting.TheVariants as counting
-use Rattle.thread_slots.proofs.Telling.{pins_show, pins_natives, turns_show}
-use Rattle.postfix_rules.specs.Rules.{rule_value}
-use Rattle.postfix_rules.proofs.Joined.{each_is_among, is_among}
-use Rattle.std.proofs.Math.Nat.{div-le_of_le-mul}
 use Rattle.thread_core.proofs.Weighing.{weighed-le, weight_small, within_at, count_fits}
-use Rattle.session_model.proofs.CountsInTurns.{counts_per_tick}
-use Rattle.std.proofs.lemmas.List.Elements.{All-map}
 use Rattle.thread_core.proofs.Taking.{past_short, by_turns, length-turned}
 use Rattle.thread_core.proofs.Owners.{length-units, face_same}
 use Rattle.thread_core.proofs.Following.{Goes, refused_follows}
-use Rattle.session_model.specs.declared.reply.Assigned.{Assigned}
-use Rattle.thread_slots.specs.declared.values.TheConstants.{NUMBER_BITS}
 
 -- no clock of the past is above that of now
 clock_rises : (before : Option Occ) (k : ℕ) (past : List Occ) → Rises (time_after before) past

@@ -1,20 +1,18 @@
 -- What an occurrence does to what is kept of a set is what is kept after one occurrence more.
-use Rattle.thread_core.proofs.Words.{Widths, Option, ℕ, IsShape, AreWidths, widths_at, None, arith, Some, slice_get, refl, List, ◌≡◌, unwrap_or, [], replicate}
-use Rattle.thread_core.proofs.Words.{zero, suc, ◌+◌, Book, Native, Occ, Kept, EventRef, get_or, ◌==◌, passes, lead, ◌++◌, passed_from, ◌∷◌, cond-false, ne_eqb}
-use Rattle.thread_core.proofs.Words.{ap, ◌∙◌, if◌then◌else◌, Bool, true, false, ◌≤◌, length, IsFit, last_after, count, pins_of, runs, plain, ◌-◌, set_natives}
-use Rattle.thread_core.proofs.Words.{counters_for, held_have_natives, all_at, IsHeld, position_or_len, same_native, get_position, lead_among, slice_get_within}
-use Rattle.thread_core.proofs.Words.{placed, get_at, option_map_or, get_or_from_slice_get, get-pins_from, Pin, period, weight_of, pinned, nat_lt, ◌/◌, sym}
-use Rattle.thread_core.proofs.Words.{UnitView, running_registers, Counted, slot_of, Slot, slot_with, counting_by, ap₂, Register, Turns, turned, weighed_running}
-use Rattle.thread_core.proofs.Words.{weight_in_turn, weighed, AtRest, numbers_of, masks_of, length-map, counted, length-replicate, programs, programs-same}
-use Rattle.thread_core.proofs.Words.{clock, clock_stays, turns_of, IsWithin, map_same, measured, runs_on, face_of, ◌&&◌, eq-eqb, Domain, set, register_at}
-use Rattle.thread_core.proofs.Words.{pin_made, place_of_lead, armed_from, armed_event, armed_of, threshold_is, period_some, with_turn, carry_of, group_at}
-use Rattle.thread_core.proofs.Words.{all_moved, all_moved-programs, all_moved-none, le-ltb, rotation_of}
+use Rattle.thread_core.proofs.Words.{Widths, Option, ℕ, IsShape, AreWidths, widths_at, None, arith, Some, slice_get, refl, List, ◌≡◌, unwrap_or, []}
+use Rattle.thread_core.proofs.Words.{replicate, zero, suc, ◌+◌, Book, Native, Occ, Kept, EventRef, get_or, ◌==◌, passes, lead, ◌++◌, passed_from, ◌∷◌}
+use Rattle.thread_core.proofs.Words.{cond-false, ne_eqb, ap, ◌∙◌, if◌then◌else◌, Bool, true, false, ◌≤◌, length, IsFit, last_after, count, pins_of}
+use Rattle.thread_core.proofs.Words.{runs, plain, ◌-◌, set_natives, counters_for, held_have_natives, all_at, IsHeld, position_or_len, same_native}
+use Rattle.thread_core.proofs.Words.{get_position, lead_among, slice_get_within, placed, get_at, option_map_or, get_or_from_slice_get, get-pins_from}
+use Rattle.thread_core.proofs.Words.{Pin, period, weight_of, pinned, nat_lt, ◌/◌, sym, UnitView, running_registers, Counted, slot_of, Slot, slot_with}
+use Rattle.thread_core.proofs.Words.{counting_by, ap₂, Register, Turns, turned, weighed_running, weight_in_turn, weighed, AtRest, numbers_of}
+use Rattle.thread_core.proofs.Words.{masks_of, length-map, counted, length-replicate, programs, programs-same, clock, clock_stays, turns_of, IsWithin}
+use Rattle.thread_core.proofs.Words.{map_same, measured, runs_on, face_of, ◌&&◌, eq-eqb, Domain, set, register_at, pin_made, place_of_lead}
+use Rattle.thread_core.proofs.Words.{armed_from, armed_event, armed_of, threshold_is, period_some, with_turn, carry_of, group_at, all_moved}
+use Rattle.thread_core.proofs.Words.{all_moved-programs, all_moved-none, le-ltb, rotation_of, carried_from, bit_at, AreTold, pin_passes, pin_carries}
+use Rattle.thread_core.proofs.Words.{each_has_group}
 use Rattle.thread_slots.specs.declared.slot.Counting.TheVariants as counting
-use Rattle.overflow_dispatch.specs.Passing.{carried_from}
-use Rattle.std.specs.Int.{bit_at}
-use Rattle.thread_slots.proofs.Carries.{AreTold, pin_passes, pin_carries}
 use Rattle.thread_core.proofs.Weighing.{count_more, measured_stopped, weight_none, turn_none}
-use Rattle.multiplex.proofs.Grouping.{each_has_group}
 
 pub widths_are : (shape : Widths) (component : Option ℕ) → IsShape shape → AreWidths (widths_at shape component)
 widths_are shape None h = record { low = λ k below. absurd (omega arith); high = λ k below. absurd (omega arith) }

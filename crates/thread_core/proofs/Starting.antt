@@ -1,32 +1,28 @@
 -- A core that starts, stops or zeroes a set: PAPI_start(3), PAPI_stop(3), PAPI_reset(3), PAPI_accum(3).
-use Rattle.thread_core.proofs.Words.{List, Occ, Kept, true, length, Option, ℕ, weighed, ◌≡◌, ap, sum, along, None, arith, length-along, Turns, Native, turned}
-use Rattle.thread_core.proofs.Words.{replicate, [], refl, ◌∷◌, ap₂, weight_in_turn, Book, Widths, widths_at, AreWidths, clock, empty_unit, running_registers}
-use Rattle.thread_core.proofs.Words.{plain, pins_of, count, weight_of, sym, programs-same, UnitView, Slot, Started, Some, turns_of, numbers_of, set_natives}
-use Rattle.thread_core.proofs.Words.{begun, false, list_any, slice_get, zero, ◌∙◌, suc, CoreView, Account, here, at, runs_on, faces_of, ◌==◌, not, CoreStands}
-use Rattle.thread_core.proofs.Words.{Face, option_map_or, slot_faces, ◌<◌, get_at, held_have_natives, all_at, IsHeld, get_position, lead_among}
-use Rattle.thread_core.proofs.Words.{slice_get_within, subst, placed, pinned, ArePinned, same_some, time_after, slice_set, Follows, end, ◌≤◌, take, drop, runs}
-use Rattle.thread_core.proofs.Words.{cond-true, ◌-◌, estimate, total, active, measured, groups, masks_of, slice_index, position_or_len, same_native, map}
-use Rattle.thread_core.proofs.Words.{slot_of, map_same, AreApart, units_of, at-some, ℤ, values_shown, numbers_shown, done, values_of, Domain, Pin, Register}
-use Rattle.thread_core.proofs.Words.{programs, set, register_at, get_or, AgreesWith, length-map, event_value, number_in, subst₂, Bool, drop_all, set_comm}
-use Rattle.thread_core.proofs.Words.{set-set, or_parts, not-true, not-false, eqb-false, slot_with, rotation_of, begun_by, IsStartable, has_events, take_all}
-use Rattle.thread_core.proofs.Words.{length-drop, pinned-tail, zeroed, set-same, sums, accumulated, rested}
-use Rattle.std.specs.Option.{ForSome}
-use Rattle.event_sets.proofs.Agreeing.{numbered}
-use Rattle.session_model.specs.Bounds.{IsValued}
+use Rattle.thread_core.proofs.Words.{List, Occ, Kept, true, length, Option, ℕ, weighed, ◌≡◌, ap, sum, along, None, arith, length-along, Turns, Native}
+use Rattle.thread_core.proofs.Words.{turned, replicate, [], refl, ◌∷◌, ap₂, weight_in_turn, Book, Widths, widths_at, AreWidths, clock, empty_unit}
+use Rattle.thread_core.proofs.Words.{running_registers, plain, pins_of, count, weight_of, sym, programs-same, UnitView, Slot, Started, Some, turns_of}
+use Rattle.thread_core.proofs.Words.{numbers_of, set_natives, begun, false, list_any, slice_get, zero, ◌∙◌, suc, CoreView, Account, here, at, runs_on}
+use Rattle.thread_core.proofs.Words.{faces_of, ◌==◌, not, CoreStands, Face, option_map_or, slot_faces, ◌<◌, get_at, held_have_natives, all_at, IsHeld}
+use Rattle.thread_core.proofs.Words.{get_position, lead_among, slice_get_within, subst, placed, pinned, ArePinned, same_some, time_after, slice_set}
+use Rattle.thread_core.proofs.Words.{Follows, end, ◌≤◌, take, drop, runs, cond-true, ◌-◌, estimate, total, active, measured, groups, masks_of}
+use Rattle.thread_core.proofs.Words.{slice_index, position_or_len, same_native, map, slot_of, map_same, AreApart, units_of, at-some, ℤ, values_shown}
+use Rattle.thread_core.proofs.Words.{numbers_shown, done, values_of, Domain, Pin, Register, programs, set, register_at, get_or, AgreesWith}
+use Rattle.thread_core.proofs.Words.{length-map, event_value, number_in, subst₂, Bool, drop_all, set_comm, set-set, or_parts, not-true, not-false}
+use Rattle.thread_core.proofs.Words.{eqb-false, slot_with, rotation_of, begun_by, IsStartable, has_events, take_all, length-drop, pinned-tail, zeroed}
+use Rattle.thread_core.proofs.Words.{set-same, sums, accumulated, rested, ForSome, numbered, IsValued, armable, zeroed_slot, zeroed_on, zeroed_at}
+use Rattle.thread_core.proofs.Words.{zeroed_units, slot_with_sums}
 use Rattle.call_type.specs.declared.call.Call.TheVariants as call
 use Rattle.papi_base.specs.declared.code.Code.TheVariants as code
 use Rattle.thread_core.proofs.Squares.{stopped_slot, running_slot, numbers-length, slot_of-stopped, widths_are, kept_as, kept_cases}
 use Rattle.thread_core.proofs.Looking.{Under, row_off, widths_on, unit_of, fit_of, put_follows, now_is, runs_as, units_one, units_rest, units_run, unit_on, under, units_without}
 use Rattle.thread_core.proofs.Following.{Allowed, faces_stand, Goes, with_both}
-use Rattle.thread_slots.proofs.Beginning.{armable}
 use Rattle.thread_core.proofs.Owners.{unit_by-runner, runner-none, owner_from-none, runs_there, quiet_stopped, runner_gone}
 use Rattle.session_model.specs.declared.reply.Body.TheVariants as body
 use Rattle.thread_core.proofs.Weighing.{within_at}
 use Rattle.thread_core.proofs.Shows.{numbers_are, values_are}
-use Rattle.thread_slots.specs.Zeroed.{zeroed_slot, zeroed_on, zeroed_at, zeroed_units}
 use Rattle.thread_slots.specs.declared.slot.Counting.TheVariants as counting
 use Rattle.thread_core.proofs.Changing.{counted_none}
-use Rattle.thread_slots.specs.Accumulated.{slot_with_sums}
 
 -- ---- start: what is held
 

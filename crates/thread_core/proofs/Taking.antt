@@ -1,23 +1,18 @@
 -- What holds of a core for which there is an account, and what a core is after an occurrence.
-use Rattle.papi_base.specs.declared.limits.TheConstants.{LAST_STAMP, MOST_OCCURRENCES}
-use Rattle.thread_slots.specs.declared.values.TheConstants.{NUMBER_BITS}
-use Rattle.thread_core.proofs.Words.{Turns, List, Occ, Kept, Native, ℕ, length, ◌≡◌, turned, [], refl, ◌∷◌, arith, ap, suc, ◌≤◌, Rises, All, ◌<◌, ◌^◌, weighed}
-use Rattle.thread_core.proofs.Words.{weight_in_turn, Book, Widths, IsFit, true, IsCountable, Some, slot_of, Option, sym, None, subst, IsTurn, Counting, ⊤}
-use Rattle.thread_core.proofs.Words.{set_natives, numbers_of, RotationView, turns_of, ◌∙◌, CoreView, AgreesWith, owner_from, map, option_map, face_of_slot}
-use Rattle.thread_core.proofs.Words.{length-map, slice_get_within, Account, faces_of, UnitView, Slot, units_of, slots_of, CountedAll, ◌+◌, counted_all}
-use Rattle.thread_core.proofs.Words.{time_after, CoreStands, consumed, last_after, ap₂, ◌++◌, notes_at, note, set}
-use Rattle.std.proofs.lemmas.List.Elements.{All-nil, All-cons}
+use Rattle.thread_core.proofs.Words.{LAST_STAMP, MOST_OCCURRENCES, NUMBER_BITS, Turns, List, Occ, Kept, Native, ℕ, length, ◌≡◌, turned, [], refl, ◌∷◌}
+use Rattle.thread_core.proofs.Words.{arith, ap, suc, ◌≤◌, Rises, All, ◌<◌, ◌^◌, weighed, weight_in_turn, Book, Widths, IsFit, true, IsCountable, Some}
+use Rattle.thread_core.proofs.Words.{slot_of, Option, sym, None, subst, IsTurn, Counting, ⊤, set_natives, numbers_of, RotationView, turns_of, ◌∙◌}
+use Rattle.thread_core.proofs.Words.{CoreView, AgreesWith, owner_from, map, option_map, face_of_slot, length-map, slice_get_within, Account, faces_of}
+use Rattle.thread_core.proofs.Words.{UnitView, Slot, units_of, slots_of, CountedAll, ◌+◌, counted_all, time_after, CoreStands, consumed, last_after}
+use Rattle.thread_core.proofs.Words.{ap₂, ◌++◌, notes_at, note, set, All-nil, All-cons, AreCountable, length-append, last_after-append, rises-push}
+use Rattle.thread_core.proofs.Words.{within_more}
 use Rattle.thread_core.proofs.Weighing.{weighed-le, turn_small}
 use Rattle.thread_slots.specs.declared.slot.Counting.TheVariants as counting
 use Rattle.thread_core.proofs.Squares.{numbers-length, kept_as, kept_cases}
-use Rattle.thread_slots.specs.Countable.{AreCountable}
 use Rattle.thread_core.proofs.Owners.{length-units, Runs, runs_by}
 use Rattle.thread_core.proofs.Looking.{under}
 use Rattle.thread_core.proofs.Following.{faces_stand}
 use Rattle.thread_core.proofs.Occurring.{all_follow}
-use Rattle.std.proofs.Common.{length-append}
-use Rattle.session_model.proofs.Pushing.{last_after-append}
-use Rattle.session_model.proofs.Within.{rises-push, within_more}
 
 pub length-turned : (t : Turns) (past : List Occ) (s : Kept) (ns : List Native) (gs : List ℕ) → length gs ≡ length ns → length (turned t past s ns gs) ≡ length ns
 length-turned t past s [] gs e = refl

@@ -1,13 +1,10 @@
 -- What one occurrence more does to the counts of a set.
-use Rattle.thread_core.proofs.Words.{ℕ, List, Option, Kept, AllWithin, slice_get, ◌≡◌, Some, IsWithin, all_at, refl, Native, Domain, Occ, weight_of, holds}
-use Rattle.thread_core.proofs.Words.{false, ne_eqb, cond-false, Turns, weight_in_turn, ◌-◌, Bool, if◌then◌else◌, true, ◌≤◌, length, count, ◌++◌, ◌∷◌, [], ◌+◌}
-use Rattle.thread_core.proofs.Words.{last_after, None, runs, weighed_running, total, end, ap₂, ap, clock, ◌∙◌, clock_stays, sym, arith, turns_of, estimated_in}
-use Rattle.thread_core.proofs.Words.{estimate, active, Book, measured, groups, masks_of, set_natives, slice_index, position_or_len, same_native, sum}
-use Rattle.thread_core.proofs.Words.{sum_by-append, drop, take, Rises, along, ◌*◌, weighed, CoreView, Account, CoreStands, ◌<◌, ◌^◌}
-use Rattle.multiplex.specs.Turns.{has_turn}
-use Rattle.session_model.proofs.Pushing.{weighed_stopped}
-use Rattle.papi_base.proofs.Weights.{weight_of-le}
-use Rattle.std.proofs.lemmas.List.Sums.{sum_by-take-drop}
+use Rattle.thread_core.proofs.Words.{ℕ, List, Option, Kept, AllWithin, slice_get, ◌≡◌, Some, IsWithin, all_at, refl, Native, Domain, Occ, weight_of}
+use Rattle.thread_core.proofs.Words.{holds, false, ne_eqb, cond-false, Turns, weight_in_turn, ◌-◌, Bool, if◌then◌else◌, true, ◌≤◌, length, count}
+use Rattle.thread_core.proofs.Words.{◌++◌, ◌∷◌, [], ◌+◌, last_after, None, runs, weighed_running, total, end, ap₂, ap, clock, ◌∙◌, clock_stays, sym}
+use Rattle.thread_core.proofs.Words.{arith, turns_of, estimated_in, estimate, active, Book, measured, groups, masks_of, set_natives, slice_index}
+use Rattle.thread_core.proofs.Words.{position_or_len, same_native, sum, sum_by-append, drop, take, Rises, along, ◌*◌, weighed, CoreView, Account}
+use Rattle.thread_core.proofs.Words.{CoreStands, ◌<◌, ◌^◌, has_turn, weighed_stopped, weight_of-le, sum_by-take-drop}
 
 pub within_at : (now : ℕ) (sets : List (Option Kept)) (k : ℕ) (s : Kept) → AllWithin now sets → slice_get sets k ≡ Some (Some s) → IsWithin now s
 within_at now sets k s h e = all_at (λ place. (x : Kept) → place ≡ Some x → IsWithin now x) sets k (Some s) h.each e s refl

@@ -1,14 +1,9 @@
 -- The calls of each thread.
-use Rattle.std.proofs.Common.{◌≡◌, ◌≢◌, ℕ, ◌+◌, ◌<◌, ◌≤◌, ◌==◌, if◌then◌else◌, inl, inr, List, [], ◌∷◌, ◌++◌, length}
-use Rattle.std.proofs.Common.{map, take, get_or, set, refl, sym, ◌∙◌, ap, arith, append_assoc, replicate}
-use Rattle.std.proofs.lemmas.Bool.{cases_eq}
-use Rattle.std.proofs.lemmas.Bool.Decides.{nat_tests}
+use Rattle.thread_registry.proofs.Words.{◌≡◌, ◌≢◌, ℕ, ◌+◌, ◌<◌, ◌≤◌, ◌==◌, if◌then◌else◌, inl, inr, List, [], ◌∷◌, ◌++◌, length, map, take, get_or}
+use Rattle.thread_registry.proofs.Words.{set, refl, sym, ◌∙◌, ap, arith, append_assoc, replicate, cases_eq, nat_tests, Call, Register, PlanLine}
+use Rattle.thread_registry.proofs.Words.{Planned, calls_in, planned_at, planned_calls}
 use Rattle.std.proofs.lemmas.List.{take_more, append-nil, map-set, get_or-set_same, get_or-set_other, length-map, length-append, length-take-le, get_or-replicate}
-use Rattle.session_model.specs.CallTypes.{Call}
-use Rattle.call_type.specs.declared.call.Call.TheVariants.{Register}
 use Rattle.call_type.specs.declared.call.Asked.TheVariants as asked
-use Rattle.thread_registry.specs.declared.runner.plan.PlanLine.{PlanLine}
-use Rattle.thread_registry.specs.Plans.{Planned, calls_in, planned_at, planned_calls}
 
 -- a line, if some line is asked for
 abbrev pub some_line : PlanLine

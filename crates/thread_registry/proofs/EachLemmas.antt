@@ -1,7 +1,5 @@
-use Rattle.std.proofs.Common.{◌≡◌, ◌+◌, ◌-◌, ◌<◌, inl, inr, List, ◌++◌, length, get_or, refl, sym, ◌∙◌, subst, ap₂, arith, length-append}
-use Rattle.std.proofs.lemmas.Bool.{cases_lt}
-use Rattle.std.proofs.lemmas.List.{get_or_append_left, get_or-append_right}
-use Rattle.thread_registry.specs.Each.{Each}
+use Rattle.thread_registry.proofs.Words.{◌≡◌, ◌+◌, ◌-◌, ◌<◌, inl, inr, List, ◌++◌, length, get_or, refl, sym, ◌∙◌, subst, ap₂, arith, length-append}
+use Rattle.thread_registry.proofs.Words.{cases_lt, get_or_append_left, get_or-append_right, Each}
 
 -- two pairs of lists, one after the other
 pub each-append : {X : Type 0} (R : X → X → Type 0) (xs ys xs' ys' : List X) → Each R xs xs' → Each R ys ys' → Each R (xs ++ ys) (xs' ++ ys')

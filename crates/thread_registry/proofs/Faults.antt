@@ -1,8 +1,5 @@
 -- Counts of faults along several calls.
-use Rattle.std.proofs.lemmas.Bool.Decides.{nat_tests}
-use Rattle.std.proofs.Common.{◌≤◌, ℕ, Option, arith}
-use Rattle.papi_base.specs.Outside.{Rose}
-use Rattle.thread_session.specs.Faults.{FaultsKept, FaultsRose}
+use Rattle.thread_registry.proofs.Words.{nat_tests, ◌≤◌, ℕ, Option, arith, Rose, FaultsKept, FaultsRose}
 
 pub kept-kept : (a b c : Option ℕ) → FaultsKept a b → FaultsKept b c → FaultsKept a c
 kept-kept = grind (arith, nat_tests)

@@ -1,13 +1,8 @@
 -- What a list of calls does, cut in two.
-use Rattle.std.proofs.Common.{◌≡◌, ℕ, ◌+◌, ◌<◌, ◌≤◌, List, [], ◌∷◌, ◌++◌, length, take, drop, get_or, refl, ap, sym, ◌∙◌, append_assoc, arith}
+use Rattle.thread_registry.proofs.Words.{◌≡◌, ℕ, ◌+◌, ◌<◌, ◌≤◌, List, [], ◌∷◌, ◌++◌, length, take, drop, get_or, refl, ap, sym, ◌∙◌, append_assoc}
+use Rattle.thread_registry.proofs.Words.{arith, take-append-add, replies-append, notes-append, account-append, Book, Call, Widths, Account, step}
+use Rattle.thread_registry.proofs.Words.{account_after, replies_to, notes_to}
 use Rattle.std.proofs.lemmas.List.{take_more, take-append-drop, take_at, append-nil, take-append-le, length-take-le}
-use Rattle.std.proofs.Math.Seq.{take-append-add}
-use Rattle.session_model.proofs.ByThread.{replies-append, notes-append, account-append}
-use Rattle.postfix_rules.specs.Presets.{Book}
-use Rattle.session_model.specs.CallTypes.{Call}
-use Rattle.event_sets.specs.AtRest.{Widths}
-use Rattle.session_model.specs.Account.{Account}
-use Rattle.session_model.specs.Step.{step, account_after, replies_to, notes_to}
 
 pub replies-length : (b : Book) (w : Widths) (a : Account) (xs : List Call) → length (replies_to b w a xs) ≡ length xs
 replies-length b w a [] = refl

@@ -1,27 +1,10 @@
 -- A job after its first calls, and after all of them.
-use Rattle.std.proofs.lemmas.Bool.Decides.{nat_tests}
-use Rattle.std.proofs.Common.{◌≡◌, ℕ, ◌+◌, ◌<◌, ◌≤◌, Bool, true, false, List, [], ◌∷◌, ◌++◌, All, length, take, get_or, ap, ap₂, sym, ◌∙◌, append_assoc, length-append, arith, subst}
-use Rattle.std.proofs.lemmas.Bool.{cases_lt}
-use Rattle.std.proofs.lemmas.List.{take_all}
-use Rattle.std.proofs.lemmas.List.Elements.{All-push}
-use Rattle.std.specs.Bool.{MatchBool}
-use Rattle.postfix_rules.specs.Presets.{Book}
-use Rattle.overflow_dispatch.specs.declared.handler.Note.{Note}
-use Rattle.overflow_dispatch.specs.Notes.{Begun, Grown, PartAdded}
-use Rattle.session_model.specs.CallTypes.{Call}
-use Rattle.session_model.specs.declared.reply.Reply.{Reply}
-use Rattle.session_model.specs.Account.{Account}
-use Rattle.session_model.specs.Step.{step, account_after, replies_to, notes_to}
-use Rattle.thread_session.specs.Faults.{FaultsKept, FaultsRose, IsFaultReply, fault_count}
-use Rattle.thread_session.specs.SessionView.{SessionView}
-use Rattle.papi_base.specs.Streams.{Coming}
-use Rattle.event_sets.specs.AtRest.{Widths}
-use Rattle.thread_core.specs.Stands.{CoreStands}
-use Rattle.thread_session.specs.Follows.{FollowsTo, IsCutTo, expecting}
-use Rattle.thread_session.specs.Prospects.{CanCome}
-use Rattle.thread_session.specs.Stands.{IsReady, Stands, to_come}
-use Rattle.thread_session.proofs.Growing.{grown_more}
-use Rattle.thread_registry.specs.JobView.{JobView, Replied, Worked, WorkedTo, Finished, FinishedTo, CutShort, WorkedOrIdle, seen_of}
+use Rattle.thread_registry.proofs.Words.{nat_tests, ◌≡◌, ℕ, ◌+◌, ◌<◌, ◌≤◌, Bool, true, false, List, [], ◌∷◌, ◌++◌, All, length, take, get_or, ap, ap₂}
+use Rattle.thread_registry.proofs.Words.{sym, ◌∙◌, append_assoc, length-append, arith, subst, cases_lt, take_all, All-push, MatchBool, Book, Note}
+use Rattle.thread_registry.proofs.Words.{Begun, Grown, PartAdded, Call, Reply, Account, step, account_after, replies_to, notes_to, FaultsKept}
+use Rattle.thread_registry.proofs.Words.{FaultsRose, IsFaultReply, fault_count, SessionView, Coming, Widths, CoreStands, FollowsTo, IsCutTo}
+use Rattle.thread_registry.proofs.Words.{expecting, CanCome, IsReady, Stands, to_come, grown_more, JobView, Replied, Worked, WorkedTo, Finished}
+use Rattle.thread_registry.proofs.Words.{FinishedTo, CutShort, WorkedOrIdle, seen_of}
 use Rattle.thread_registry.proofs.Folds.{after-more, replies-more, notes-more, replies-front, notes-part}
 use Rattle.thread_registry.proofs.Faults.{kept-kept, kept-rose, rose-kept}
 

@@ -1,15 +1,7 @@
 -- Jobs that are made from the end.
-use Rattle.std.proofs.Common.{◌≡◌, ℕ, ◌+◌, ◌<◌, ◌≤◌, zero, suc, List, [], ◌∷◌, ◌++◌, length, map, reverse, drop, get_or, refl, sym}
-use Rattle.std.proofs.Common.{◌∙◌, ap, ap₂, arith, Some, slice_get}
-use Rattle.std.proofs.lemmas.List.{reverse-append, drop_all, drop_more}
-use Rattle.overflow_dispatch.specs.declared.handler.Note.{Note}
-use Rattle.event_sets.specs.AtRest.{Widths}
-use Rattle.session_model.specs.CallTypes.{Call}
-use Rattle.stream_reader.specs.Reader.{ReaderView}
-use Rattle.thread_registry.specs.JobView.{JobView}
-use Rattle.thread_registry.specs.declared.runner.works.Work.{Work}
-use Rattle.thread_registry.specs.Jobs.{before, befores_from}
-use Rattle.thread_registry.specs.Works.{AreWorks, IsWork}
+use Rattle.thread_registry.proofs.Words.{◌≡◌, ℕ, ◌+◌, ◌<◌, ◌≤◌, zero, suc, List, [], ◌∷◌, ◌++◌, length, map, reverse, drop, get_or, refl, sym, ◌∙◌}
+use Rattle.thread_registry.proofs.Words.{ap, ap₂, arith, Some, slice_get, reverse-append, drop_all, drop_more, Note, Widths, Call, ReaderView}
+use Rattle.thread_registry.proofs.Words.{JobView, Work, before, befores_from, AreWorks, IsWork}
 use Rattle.thread_registry.proofs.Lists.{map-push}
 
 pub before-at : (k : ℕ) (shape : Widths) (rs : List ReaderView) (nss : List (List Note)) (css : List (List Call)) (t : ℕ) (d : JobView) (r : ReaderView) → t < length rs → length nss ≡ length rs → length css ≡ length rs

@@ -14,3 +14,4 @@ pub mod Marked
 pub mod Served
 pub mod Scripts
 pub mod Worlds
+pub mod Words

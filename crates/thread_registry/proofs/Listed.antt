@@ -1,11 +1,7 @@
 -- Bits of a list of flags.
-use Rattle.std.proofs.Common.{◌≡◌, ℕ, suc, ◌+◌, ◌-◌, ◌*◌, ◌^◌, ◌<◌, ◌≤◌, Bool, true, false, if◌then◌else◌, List, [], ◌∷◌, map, drop, length, get_or, subst, refl, sym, ◌∙◌, ap, ap₂, arith}
-use Rattle.std.proofs.lemmas.List.{drop_more}
-use native.Mathlib.Numerals.{unary_clauses}
-use Rattle.session_model.specs.Account.{Account}
-use Rattle.session_model.specs.World.{listed_from}
-use Rattle.session_model.specs.Worlds.{bits_from}
-use Rattle.session_model.proofs.Merging.{listed_bits}
+use Rattle.thread_registry.proofs.Words.{◌≡◌, ℕ, suc, ◌+◌, ◌-◌, ◌*◌, ◌^◌, ◌<◌, ◌≤◌, Bool, true, false, if◌then◌else◌, List, [], ◌∷◌, map, drop}
+use Rattle.thread_registry.proofs.Words.{length, get_or, subst, refl, sym, ◌∙◌, ap, ap₂, arith, drop_more, unary_clauses, Account, listed_from}
+use Rattle.thread_registry.proofs.Words.{bits_from, listed_bits}
 
 -- twice as high
 pub bits-twice : (bit : ℕ) (flags : List Bool) → bits_from (2 * bit) flags ≡ 2 * bits_from bit flags

@@ -1,8 +1,6 @@
 -- Lists that lose their last element while others gain it, and what holds of all elements.
-use Rattle.std.proofs.Common.{◌≡◌, ◌||◌, Bool, false, true, List, [], ◌∷◌, ◌++◌, All, length, map, reverse, refl, sym}
-use Rattle.std.proofs.Common.{◌∙◌, ap, subst, arith, append-nil, append_assoc}
-use Rattle.std.proofs.lemmas.List.{reverse-append, map-append}
-use Rattle.std.proofs.lemmas.List.Elements.{All-append, All-push}
+use Rattle.thread_registry.proofs.Words.{◌≡◌, ◌||◌, Bool, false, true, List, [], ◌∷◌, ◌++◌, All, length, map, reverse, refl, sym, ◌∙◌, ap, subst}
+use Rattle.thread_registry.proofs.Words.{arith, append-nil, append_assoc, reverse-append, map-append, All-append, All-push}
 
 pub all-none : {X : Type 0} (P : X → Type 0) → All P []
 all-none P = λ k d l. absurd (omega (arith, l))

@@ -1,22 +1,11 @@
 -- The marks of a list of replies and of one reply more, and their lines.
-use Rattle.std.proofs.lemmas.Bool.Decides.{nat_tests}
-use Rattle.std.proofs.Common.{◌≡◌, ◌<◌, ◌≤◌, ◌+◌, ◌==◌, ℕ, zero, suc, Bool, true, false, List, [], ◌∷◌, ◌++◌, length, take, map, filter}
-use Rattle.std.proofs.Common.{All, ap₂, slice_get, subst, unwrap_or, set, get_or, if◌then◌else◌, Option, Some, None, refl, sym, ap, ◌∙◌, arith, replicate, tests}
-use Rattle.std.proofs.lemmas.List.{get_or_default, map-append}
-use Rattle.std.proofs.lemmas.Option.{slice_get-get_or}
-use Rattle.std.proofs.lemmas.List.Elements.{filter-append}
-use Rattle.std.proofs.lemmas.List.FromFn.{get_or-map-range_with_len}
-use Rattle.std.proofs.Math.Seq.{take-suc}
-use Rattle.std.specs.List.{range_with_len}
-use Rattle.std.specs.Option.{option_map, option_or}
+use Rattle.thread_registry.proofs.Words.{nat_tests, ◌≡◌, ◌<◌, ◌≤◌, ◌+◌, ◌==◌, ℕ, zero, suc, Bool, true, false, List, [], ◌∷◌, ◌++◌, length, take, map}
+use Rattle.thread_registry.proofs.Words.{filter, All, ap₂, slice_get, subst, unwrap_or, set, get_or, if◌then◌else◌, Option, Some, None, refl, sym, ap}
+use Rattle.thread_registry.proofs.Words.{◌∙◌, arith, replicate, tests, get_or_default, map-append, slice_get-get_or, filter-append}
+use Rattle.thread_registry.proofs.Words.{get_or-map-range_with_len, take-suc, range_with_len, option_map, option_or, plain, Reply, Ended, first_met}
+use Rattle.thread_registry.proofs.Words.{met_in, met_mark, ReplyLine, mark_at, marks_in}
 use Rattle.call_type.specs.declared.call_name.CallName.TheVariants as name
 use Rattle.papi_base.specs.declared.code.Code.TheVariants as code
-use Rattle.session_model.specs.Replies.{plain}
-use Rattle.session_model.specs.declared.reply.Reply.{Reply}
-use Rattle.session_model.specs.declared.reply.Ended.{Ended}
-use Rattle.session_model.specs.World.{first_met, met_in, met_mark}
-use Rattle.thread_registry.specs.declared.runner.result.ReplyLine.{ReplyLine}
-use Rattle.thread_registry.specs.Marks.{mark_at, marks_in}
 
 first_met-none : (a : Option Ended) → first_met a None ≡ a
 first_met-none None = refl

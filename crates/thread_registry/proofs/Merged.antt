@@ -1,26 +1,12 @@
 -- Lines that are answered one after another.
-use Rattle.std.proofs.Common.{◌≡◌, ℕ, zero, suc, ◌+◌, ◌-◌, ◌<◌, ◌≤◌, Bool, false, List, [], ◌∷◌, ◌++◌, length, map, drop, get_or, set, sym, refl, subst, ◌∙◌, ap, ap₂, arith, append_assoc, length-append, replicate, Some, slice_get, unwrap_or}
-use Rattle.std.proofs.lemmas.Bool.{cases_eq}
-use Rattle.std.proofs.lemmas.Bool.Decides.{nat_tests}
-use Rattle.std.proofs.lemmas.List.{drop_more, map-append, get_or-set_same, get_or-set_other, length-drop}
-use Rattle.std.proofs.lemmas.List.Elements.{All-append}
-use Rattle.std.proofs.lemmas.Option.{slice_get-get_or}
-use Rattle.std.specs.Option.{option_map}
-use Rattle.papi_base.specs.declared.code.Code.{Code}
+use Rattle.thread_registry.proofs.Words.{◌≡◌, ℕ, zero, suc, ◌+◌, ◌-◌, ◌<◌, ◌≤◌, Bool, false, List, [], ◌∷◌, ◌++◌, length, map, drop, get_or, set, sym}
+use Rattle.thread_registry.proofs.Words.{refl, subst, ◌∙◌, ap, ap₂, arith, append_assoc, length-append, replicate, Some, slice_get, unwrap_or}
+use Rattle.thread_registry.proofs.Words.{cases_eq, nat_tests, drop_more, map-append, get_or-set_same, get_or-set_other, length-drop, All-append}
+use Rattle.thread_registry.proofs.Words.{slice_get-get_or, option_map, Code, Reply, plain, next_reply, registered_after, Call, name_of, AllAnswered}
+use Rattle.thread_registry.proofs.Words.{IsAnswered, IsListOf, IsMade, answer_of, line_of, made_at, Answer, AnsweredLine, PlanLine, ReplyLine}
+use Rattle.thread_registry.proofs.Words.{Planned, calls_in, planned_at, planned_calls, reply_by, rest_by, flags_by, lines_by}
 use Rattle.papi_base.specs.declared.code.Code.TheVariants as code
-use Rattle.session_model.specs.declared.reply.Reply.{Reply}
-use Rattle.session_model.specs.Replies.{plain}
-use Rattle.session_model.specs.Worlds.{next_reply, registered_after}
-use Rattle.session_model.specs.CallTypes.{Call}
 use Rattle.call_type.specs.declared.call.Asked.TheVariants as asked
-use Rattle.call_type.specs.Calls.{name_of}
-use Rattle.thread_registry.specs.Answers.{AllAnswered, IsAnswered, IsListOf, IsMade, answer_of, line_of, made_at}
-use Rattle.thread_registry.specs.declared.runner.lines.Answer.{Answer}
-use Rattle.thread_registry.specs.declared.runner.lines.AnsweredLine.{AnsweredLine}
-use Rattle.thread_registry.specs.declared.runner.plan.PlanLine.{PlanLine}
-use Rattle.thread_registry.specs.declared.runner.result.ReplyLine.{ReplyLine}
-use Rattle.thread_registry.specs.Plans.{Planned, calls_in, planned_at, planned_calls}
-use Rattle.thread_registry.specs.Merges.{reply_by, rest_by, flags_by, lines_by}
 
 -- what is left of each list, after so many of its replies
 abbrev pub rests : List ℕ → List (List Reply) → List (List Reply)

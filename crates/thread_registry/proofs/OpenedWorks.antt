@@ -1,8 +1,6 @@
 -- The work of the threads, one after another.
-use Rattle.std.proofs.Common.{◌≡◌, ℕ, zero, suc, ◌+◌, List, [], ◌∷◌, ◌++◌, length, subst, arith, Some, slice_get}
-use Rattle.event_sets.specs.AtRest.{Widths}
-use Rattle.thread_registry.specs.declared.runner.works.Work.{Work}
-use Rattle.thread_registry.specs.Works.{AreWorks, IsWork}
+use Rattle.thread_registry.proofs.Words.{◌≡◌, ℕ, zero, suc, ◌+◌, List, [], ◌∷◌, ◌++◌, length, subst, arith, Some, slice_get, Widths, Work, AreWorks}
+use Rattle.thread_registry.proofs.Words.{IsWork}
 
 -- those from the thread k on, and one more
 more-from : (shape : Widths) (w : Work) (ws : List Work) (k : ℕ) → ((j : ℕ) (u : Work) → slice_get ws j ≡ Some u → IsWork shape (k + j) u) → IsWork shape (k + length ws) w

@@ -1,15 +1,7 @@
 -- What the jobs left, in the order of the threads.
-use Rattle.std.proofs.lemmas.Bool.Decides.{nat_tests}
-use Rattle.std.proofs.Common.{◌≡◌, ℕ, ◌<◌, Bool, false, List, [], ◌∷◌, ◌++◌, All, length, map, reverse, get_or, refl, sym, ◌∙◌, ap, subst, arith}
-use Rattle.std.proofs.lemmas.List.{reverse-append, map-append, get_or-reverse, get_or-map, length-reverse, length-map, reverse-reverse}
-use Rattle.std.proofs.lemmas.List.Elements.{All-map}
-use Rattle.overflow_dispatch.specs.declared.handler.Note.{Note}
-use Rattle.thread_registry.specs.Each.{Each}
-use Rattle.postfix_rules.specs.Presets.{Book}
-use Rattle.session_model.specs.declared.reply.Reply.{Reply}
-use Rattle.stream_reader.specs.Reader.{ReaderView}
-use Rattle.thread_registry.specs.JobView.{JobView, WorkedOrIdle}
-use Rattle.thread_registry.specs.Jobs.{Left}
+use Rattle.thread_registry.proofs.Words.{nat_tests, ◌≡◌, ℕ, ◌<◌, Bool, false, List, [], ◌∷◌, ◌++◌, All, length, map, reverse, get_or, refl, sym, ◌∙◌}
+use Rattle.thread_registry.proofs.Words.{ap, subst, arith, reverse-append, map-append, get_or-reverse, get_or-map, length-reverse, length-map}
+use Rattle.thread_registry.proofs.Words.{reverse-reverse, All-map, Note, Each, Book, Reply, ReaderView, JobView, WorkedOrIdle, Left}
 
 pub map-reverse : {A B : Type 0} (f : A → B) (xs : List A) → map f (reverse xs) ≡ reverse (map f xs)
 map-reverse f [] = refl

@@ -1,23 +1,11 @@
 -- The plan of a script, and its lines answered as those of the script.
-use Rattle.std.proofs.lemmas.Bool.Decides.{nat_tests}
-use Rattle.std.proofs.Common.{◌≡◌, ℕ, zero, suc, ◌<◌, Bool, ◌==◌, if◌then◌else◌, List, [], ◌∷◌, ◌++◌, All, length, map, get_or, set, refl}
-use Rattle.std.proofs.Common.{sym, ◌∙◌, ap, ap₂, subst, arith, Option, None, slice_set}
-use Rattle.std.proofs.lemmas.List.{set-get_or}
-use Rattle.std.proofs.lemmas.List.Elements.{All-drop, All-tail}
-use Rattle.call_type.specs.Calls.{name_of}
-use Rattle.papi_base.specs.declared.native.Native.{Native}
-use Rattle.session_model.specs.CallTypes.{Asked}
-use Rattle.session_model.specs.declared.line.Line.{Line}
-use Rattle.session_model.specs.declared.reply.Reply.{Reply}
-use Rattle.session_model.specs.World.{LineTold, Setting, calls_asked, calls_at, mentioned_after, name_by}
-use Rattle.session_model.specs.Worlds.{Ahead, ahead_after, merged, merged_reply, next_reply}
-use Rattle.thread_session.specs.Faults.{FaultsRose, IsFaultReply}
+use Rattle.thread_registry.proofs.Words.{nat_tests, ◌≡◌, ℕ, zero, suc, ◌<◌, Bool, ◌==◌, if◌then◌else◌, List, [], ◌∷◌, ◌++◌, All, length, map, get_or}
+use Rattle.thread_registry.proofs.Words.{set, refl, sym, ◌∙◌, ap, ap₂, subst, arith, Option, None, slice_set, set-get_or, All-drop, All-tail, name_of}
+use Rattle.thread_registry.proofs.Words.{Native, Asked, Line, Reply, LineTold, Setting, calls_asked, calls_at, mentioned_after, name_by, Ahead}
+use Rattle.thread_registry.proofs.Words.{ahead_after, merged, merged_reply, next_reply, FaultsRose, IsFaultReply, PlanLine, ReplyLine, Ask, Planned}
+use Rattle.thread_registry.proofs.Words.{ask_of, asks_from, calls_in, event_by, planned_at, planned_by, ahead_then, lines_by, reply_by, rest_by}
+use Rattle.thread_registry.proofs.Words.{AreInOrder, reply_lines}
 use Rattle.call_type.specs.declared.call.Asked.TheVariants as asked
-use Rattle.thread_registry.specs.declared.runner.plan.PlanLine.{PlanLine}
-use Rattle.thread_registry.specs.declared.runner.result.ReplyLine.{ReplyLine}
-use Rattle.thread_registry.specs.Plans.{Ask, Planned, ask_of, asks_from, calls_in, event_by, planned_at, planned_by}
-use Rattle.thread_registry.specs.Merges.{ahead_then, lines_by, reply_by, rest_by}
-use Rattle.thread_registry.specs.Runs.{AreInOrder, reply_lines}
 use Rattle.thread_registry.proofs.Lists.{all-none, all-cons}
 
 -- ---- the same calls

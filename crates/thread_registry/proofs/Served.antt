@@ -1,39 +1,12 @@
 -- What each thread got, from what its job left.
-use Rattle.std.proofs.lemmas.Bool.Decides.{nat_tests}
-use Rattle.std.proofs.Common.{◌≡◌, ℕ, zero, suc, ◌+◌, ◌<◌, Bool, true, false, ◌==◌, if◌then◌else◌, List, [], ◌∷◌, ◌++◌, All, length, map}
-use Rattle.std.proofs.Common.{get_or, refl, sym, ◌∙◌, ap, subst, arith, Option, Some, None, append-nil, inl, inr, slice_get}
-use Rattle.std.specs.Bool.{MatchBool}
-use Rattle.std.proofs.lemmas.Bool.{cases_lt}
-use Rattle.std.proofs.lemmas.List.{take_all, get_or-map, get_or_past, length-map}
-use Rattle.std.proofs.lemmas.List.Elements.{All-append, All-push, All-tail}
-use Rattle.overflow_dispatch.specs.declared.handler.Note.{Note}
-use Rattle.overflow_dispatch.specs.Notes.{Begun}
-use Rattle.papi_base.specs.Streams.{Coming, Dry}
-use Rattle.postfix_rules.specs.Presets.{Book}
-use Rattle.event_sets.specs.AtRest.{Widths}
-use Rattle.postfix_rules.specs.Fitting.{BookFits}
-use Rattle.session_model.specs.CallTypes.{Call}
-use Rattle.session_model.specs.declared.reply.Reply.{Reply}
-use Rattle.session_model.specs.Account.{Account, opening}
-use Rattle.session_model.specs.Conditions.{IsGood}
-use Rattle.session_model.specs.Fitness.{IsShape}
-use Rattle.session_model.specs.Step.{notes_to}
-use Rattle.papi_base.specs.Outside.{Tape}
-use Rattle.papi_base.specs.declared.outside.Ending.TheVariants.{End}
-use Rattle.stream_reader.specs.Reader.{ReaderView, comes, coming, tape_of}
-use Rattle.thread_core.proofs.Opening.{opening_agrees, opening_stands}
-use Rattle.thread_session.specs.Faults.{FaultsRose, IsFaultReply, fault_count}
-use Rattle.thread_session.specs.Prospects.{CanCome}
-use Rattle.thread_session.specs.Stands.{Stands}
-use Rattle.thread_session.proofs.Failing.{kept_same}
-use Rattle.thread_session.proofs.Growing.{grown_same}
-use Rattle.thread_registry.specs.JobView.{JobView, Worked, Finished, FinishedTo, CutShort, CanWork, WorkedOrIdle}
-use Rattle.thread_registry.specs.declared.runner.plan.PlanLine.{PlanLine}
-use Rattle.thread_registry.specs.declared.runner.works.Work.{Work}
-use Rattle.thread_registry.specs.Jobs.{Left, before, befores_from}
-use Rattle.thread_registry.specs.Plans.{AreGood, AreThreads, IsGoodFor, Planned, calls_in, planned_at, planned_calls}
-use Rattle.thread_registry.specs.Served.{AreServed, Served}
-use Rattle.thread_registry.specs.Works.{AreDealt, AreWorks, calls_of}
+use Rattle.thread_registry.proofs.Words.{nat_tests, ◌≡◌, ℕ, zero, suc, ◌+◌, ◌<◌, Bool, true, false, ◌==◌, if◌then◌else◌, List, [], ◌∷◌, ◌++◌, All}
+use Rattle.thread_registry.proofs.Words.{length, map, get_or, refl, sym, ◌∙◌, ap, subst, arith, Option, Some, None, append-nil, inl, inr, slice_get}
+use Rattle.thread_registry.proofs.Words.{MatchBool, cases_lt, take_all, get_or-map, get_or_past, length-map, All-append, All-push, All-tail, Note}
+use Rattle.thread_registry.proofs.Words.{Begun, Coming, Dry, Book, Widths, BookFits, Call, Reply, Account, opening, IsGood, IsShape, notes_to, Tape}
+use Rattle.thread_registry.proofs.Words.{End, ReaderView, comes, coming, tape_of, opening_agrees, opening_stands, FaultsRose, IsFaultReply}
+use Rattle.thread_registry.proofs.Words.{fault_count, CanCome, Stands, kept_same, grown_same, JobView, Worked, Finished, FinishedTo, CutShort}
+use Rattle.thread_registry.proofs.Words.{CanWork, WorkedOrIdle, PlanLine, Work, Left, before, befores_from, AreGood, AreThreads, IsGoodFor, Planned}
+use Rattle.thread_registry.proofs.Words.{calls_in, planned_at, planned_calls, AreServed, Served, AreDealt, AreWorks, calls_of}
 use Rattle.thread_registry.proofs.Lists.{all-cons, all-none}
 use Rattle.thread_registry.proofs.Lent.{before-at, befores-length}
 

@@ -1,37 +1,14 @@
 -- What all threads got is what the world of the script says.
-use Rattle.std.proofs.lemmas.Bool.Decides.{nat_tests}
-use Rattle.std.proofs.Common.{◌≡◌, ℕ, zero, suc, ◌+◌, ◌<◌, ◌≤◌, Bool, false, List, [], ◌∷◌, All, length, map, replicate, get_or, refl}
-use Rattle.std.proofs.Common.{sym, append-nil, ◌∙◌, ap, ap₂, subst, arith, Option, Some, None, Result, Ok, Err, OnOk, IfOk, inl, inr, slice_get}
-use Rattle.std.specs.Result.{is_err}
-use Rattle.std.proofs.lemmas.List.{get_or-map, get_or_past, length-map}
-use Rattle.std.proofs.lemmas.List.FromFn.{get_or-map-range_with_len}
-use Rattle.std.proofs.lemmas.Bool.{cases_lt}
-use Rattle.std.proofs.lemmas.Option.{slice_get_within}
-use Rattle.overflow_dispatch.specs.declared.handler.Note.{Note}
-use Rattle.overflow_dispatch.specs.Notes.{Begun, EachAdded, EachBegun, EachGrown}
-use Rattle.papi_base.specs.Streams.{Coming, Dry}
-use Rattle.postfix_rules.specs.Presets.{Book}
-use Rattle.event_sets.specs.AtRest.{Widths}
-use Rattle.session_model.specs.declared.line.Line.{Line}
-use Rattle.session_model.specs.declared.reply.Reply.{Reply}
-use Rattle.session_model.specs.Account.{Account, opening}
-use Rattle.session_model.specs.Step.{notes_to, replies_to}
-use Rattle.session_model.specs.World.{Setting, calls_at, notes_of_thread, opening_accounts, opening_world}
-use Rattle.session_model.specs.Worlds.{Ahead, IsAhead}
-use Rattle.session_model.proofs.ByThread.{opens_by_thread, notes_by_thread}
-use Rattle.session_model.proofs.Merging.{merges_to_world}
-use Rattle.stream_reader.specs.Reader.{ReaderView, coming}
-use Rattle.thread_session.specs.Faults.{FaultsKept, FaultsRose, IsFaultReply, fault_count}
-use Rattle.thread_session.specs.Prospects.{CanCome}
-use Rattle.thread_session.proofs.Failing.{kept_same}
-use Rattle.thread_session.proofs.Growing.{grown_same}
-use Rattle.thread_registry.specs.declared.runner.plan.PlanLine.{PlanLine}
-use Rattle.thread_registry.specs.declared.runner.result.ReplyLine.{ReplyLine}
-use Rattle.thread_registry.specs.Plans.{AreThreads, planned_at}
-use Rattle.thread_registry.specs.Merges.{lines_by}
-use Rattle.thread_registry.specs.Runs.{AllKept, CanEachCome, IdleStay, IsPlannedAndTold, IsPlannedFrom, reply_lines, world_told}
+use Rattle.thread_registry.proofs.Words.{nat_tests, ◌≡◌, ℕ, zero, suc, ◌+◌, ◌<◌, ◌≤◌, Bool, false, List, [], ◌∷◌, All, length, map, replicate, get_or}
+use Rattle.thread_registry.proofs.Words.{refl, sym, append-nil, ◌∙◌, ap, ap₂, subst, arith, Option, Some, None, Result, Ok, Err, OnOk, IfOk, inl, inr}
+use Rattle.thread_registry.proofs.Words.{slice_get, is_err, get_or-map, get_or_past, length-map, get_or-map-range_with_len, cases_lt}
+use Rattle.thread_registry.proofs.Words.{slice_get_within, Note, Begun, EachAdded, EachBegun, EachGrown, Coming, Dry, Book, Widths, Line, Reply}
+use Rattle.thread_registry.proofs.Words.{Account, opening, notes_to, replies_to, Setting, calls_at, notes_of_thread, opening_accounts, opening_world}
+use Rattle.thread_registry.proofs.Words.{Ahead, IsAhead, opens_by_thread, notes_by_thread, merges_to_world, ReaderView, coming, FaultsKept}
+use Rattle.thread_registry.proofs.Words.{FaultsRose, IsFaultReply, fault_count, CanCome, kept_same, grown_same, PlanLine, ReplyLine, AreThreads}
+use Rattle.thread_registry.proofs.Words.{planned_at, lines_by, AllKept, CanEachCome, IdleStay, IsPlannedAndTold, IsPlannedFrom, reply_lines}
+use Rattle.thread_registry.proofs.Words.{world_told, AreServed, ServedAs}
 use Rattle.thread_registry.specs.Runs as runs
-use Rattle.thread_registry.specs.Served.{AreServed, ServedAs}
 use Rattle.thread_registry.proofs.Lists.{all-none}
 use Rattle.thread_registry.proofs.Served.{some_coming, with_some}
 use Rattle.thread_registry.proofs.Scripts.{lines-speak, lines-told, merged-same, planned-script, script-threads}

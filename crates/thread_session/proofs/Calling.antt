@@ -1,30 +1,10 @@
 -- A call that is not a run leaves the stream alone, and notes nothing.
-use Rattle.std.proofs.Common.{◌≡◌, ℕ, false, List, [], ◌++◌, refl, ap, sym, subst, ◌∙◌, ap₂, append-nil, Option, Some, None}
-use Rattle.std.specs.Option.{option_map_or}
-use Rattle.papi_base.specs.declared.occurrence.Occ.{Occ}
-use Rattle.papi_base.specs.Streams.{Coming, Mark}
-use Rattle.overflow_dispatch.specs.Notes.{PartAdded}
-use Rattle.overflow_dispatch.specs.declared.handler.Note.{Note}
-use Rattle.postfix_rules.specs.Presets.{Book}
-use Rattle.event_sets.specs.AtRest.{Widths}
-use Rattle.event_sets.specs.declared.refusal.Refusal.{Refusal}
-use Rattle.event_sets.specs.declared.refusal.Refusal.TheVariants.{Plain, Conflict}
-use Rattle.session_model.specs.CallTypes.{Call}
+use Rattle.thread_session.proofs.Words.{◌≡◌, ℕ, false, List, [], ◌++◌, refl, ap, sym, subst, ◌∙◌, ap₂, append-nil, Option, Some, None, option_map_or}
+use Rattle.thread_session.proofs.Words.{Occ, Coming, Mark, PartAdded, Note, Book, Widths, Refusal, Plain, Conflict, Call, Body, Reply, Account}
+use Rattle.thread_session.proofs.Words.{refused, account_refusal, performed, step, unless, ReaderView, coming, nothing, CoreView, Follows, AgreesWith}
+use Rattle.thread_session.proofs.Words.{IsFaultBody, IsFaultReply, Does, FollowsAs, FollowsTo, expecting, is_run, CanCome, SessionView}
 use Rattle.call_type.specs.declared.call.Call.TheVariants as call
-use Rattle.session_model.specs.declared.reply.Body.{Body}
 use Rattle.session_model.specs.declared.reply.Body.TheVariants as body
-use Rattle.session_model.specs.declared.reply.Reply.{Reply}
-use Rattle.session_model.specs.Account.{Account}
-use Rattle.session_model.specs.Replies.{refused}
-use Rattle.session_model.specs.Step.{account_refusal, performed, step, unless}
-use Rattle.stream_reader.specs.Reader.{ReaderView, coming, nothing}
-use Rattle.thread_core.specs.CoreView.{CoreView}
-use Rattle.thread_core.specs.Following.{Follows}
-use Rattle.thread_core.specs.Stands.{AgreesWith}
-use Rattle.thread_session.specs.Faults.{IsFaultBody, IsFaultReply}
-use Rattle.thread_session.specs.Follows.{Does, FollowsAs, FollowsTo, expecting, is_run}
-use Rattle.thread_session.specs.Prospects.{CanCome}
-use Rattle.thread_session.specs.SessionView.{SessionView}
 use Rattle.thread_session.proofs.Endings.{core_at, follows_reply, follows_stands}
 
 -- what a call leaves of the stream, its notes, and that the source did not fail

@@ -1,28 +1,12 @@
 -- A run in which memory was refused.
-use Rattle.std.proofs.Common.{◌≡◌, ℕ, suc, ◌+◌, ◌-◌, ◌<◌, List, [], ◌∷◌, ◌++◌, length, map, take, min, refl, ap, ap₂, sym, subst, ◌∙◌, arith, append_assoc, length-append}
-use Rattle.std.proofs.Math.Seq.{take-append-add}
-use Rattle.std.proofs.lemmas.List.{take-append-le}
-use Rattle.papi_base.specs.declared.occurrence.Occ.{Occ}
-use Rattle.papi_base.specs.Streams.{Coming}
-use Rattle.overflow_dispatch.specs.Notes.{PartAdded}
-use Rattle.overflow_dispatch.specs.declared.handler.Note.{Note}
-use Rattle.postfix_rules.specs.Presets.{Book}
-use Rattle.call_type.specs.declared.call.Call.TheVariants.{Run}
-use Rattle.session_model.specs.Account.{Account}
-use Rattle.session_model.specs.Step.{step}
-use Rattle.session_model.specs.Thresholds.{note, notes_at, notes_over}
+use Rattle.thread_session.proofs.Words.{◌≡◌, ℕ, suc, ◌+◌, ◌-◌, ◌<◌, List, [], ◌∷◌, ◌++◌, length, map, take, min, refl, ap, ap₂, sym, subst, ◌∙◌}
+use Rattle.thread_session.proofs.Words.{arith, append_assoc, length-append, take-append-add, take-append-le, Occ, Coming, PartAdded, Note, Book, Run}
+use Rattle.thread_session.proofs.Words.{Account, step, note, notes_at, notes_over, NextGives, ReaderView, Takes, coming, CoreView, CoreStands}
+use Rattle.thread_session.proofs.Words.{consumed, SessionView, Stands, IsCut, IsCutTo, consuming, expecting, CanCome, gave_more}
 use Rattle.stream_reader.specs.declared.next.Next.TheVariants as next
-use Rattle.stream_reader.specs.Reader.{NextGives, ReaderView, Takes, coming}
-use Rattle.thread_core.specs.CoreView.{CoreView}
-use Rattle.thread_core.specs.Stands.{CoreStands, consumed}
-use Rattle.thread_session.specs.SessionView.{SessionView}
-use Rattle.thread_session.specs.Stands.{Stands}
-use Rattle.thread_session.specs.Follows.{IsCut, IsCutTo, consuming, expecting}
-use Rattle.thread_session.specs.Prospects.{CanCome}
 use Rattle.thread_session.proofs.Endings.{core_at}
 use Rattle.thread_session.proofs.Possible.{before_answer}
 use Rattle.thread_session.proofs.Runs.{Running, notes_over-append}
-use Rattle.stream_reader.proofs.Giving.{gave_more}
 
 pub cut_at : {book : Book} {old : SessionView} {core core_then : CoreView} {reader reader_then : ReaderView} {before after after_then : List Note} {k count n thread : ℕ} {o : Occ} (set : ℕ) (passed : List ℕ)
     → k < n

@@ -1,12 +1,7 @@
 -- Notes handed on one after another.
-use Rattle.std.proofs.Common.{◌≡◌, ℕ, zero, suc, ◌+◌, ◌<◌, List, [], ◌∷◌, ◌++◌, length, map, take, drop, get_or, refl, ap, sym, ◌∙◌, arith, append_assoc, slice_get}
-use Rattle.std.specs.Prelude.{⊤, Err, OnErr, Ok, Result, unwrap_or}
-use Rattle.std.proofs.lemmas.List.{length-map, take_more, drop-drop}
-use Rattle.std.proofs.lemmas.Option.{unwrap_or-slice_get}
-use Rattle.papi_base.specs.declared.occurrence.Occ.{Occ}
-use Rattle.overflow_dispatch.specs.Notes.{PartAdded}
-use Rattle.overflow_dispatch.specs.declared.handler.Note.{Note}
-use Rattle.session_model.specs.Thresholds.{note}
+use Rattle.thread_session.proofs.Words.{◌≡◌, ℕ, zero, suc, ◌+◌, ◌<◌, List, [], ◌∷◌, ◌++◌, length, map, take, drop, get_or, refl, ap, sym, ◌∙◌, arith}
+use Rattle.thread_session.proofs.Words.{append_assoc, slice_get, ⊤, Err, OnErr, Ok, Result, unwrap_or, length-map, take_more, drop-drop}
+use Rattle.thread_session.proofs.Words.{unwrap_or-slice_get, Occ, PartAdded, Note, note}
 
 get_or-noted : (thread set : ℕ) (o : Occ) (passed : List ℕ) (i : ℕ) → i < length passed → get_or (map (note thread set o) passed) i (note thread set o 0) ≡ note thread set o (get_or passed i 0)
 get_or-noted thread set o [] i less = absurd (omega (arith, less))

@@ -1,28 +1,12 @@
 -- How a run ends that was not cut.
-use Rattle.std.proofs.Common.{◌≡◌, ℕ, ◌<◌, true, List, [], ◌++◌, length, refl, ap, ap₂, sym, subst, ◌∙◌, arith, Option, Some, None}
-use Rattle.papi_base.specs.declared.occurrence.Occ.{Occ}
-use Rattle.papi_base.specs.Streams.{Coming, Mark, Dry}
-use Rattle.overflow_dispatch.specs.declared.handler.Note.{Note}
-use Rattle.postfix_rules.specs.Presets.{Book}
-use Rattle.session_model.specs.CallTypes.{Call}
-use Rattle.call_type.specs.declared.call.Call.TheVariants.{Run}
-use Rattle.session_model.specs.declared.reply.Ended.{Ended}
+use Rattle.thread_session.proofs.Words.{◌≡◌, ℕ, ◌<◌, true, List, [], ◌++◌, length, refl, ap, ap₂, sym, subst, ◌∙◌, arith, Option, Some, None, Occ}
+use Rattle.thread_session.proofs.Words.{Coming, Mark, Dry, Note, Book, Call, Run, Ended, Reply, Account, StepOutcome, ended_at, step, notes_over}
+use Rattle.thread_session.proofs.Words.{NextGives, ReaderView, Takes, at_mark, coming, nothing, CoreView, CoreStands, SessionView, Stands, FollowsAs}
+use Rattle.thread_session.proofs.Words.{FollowsTo, consuming, expecting, run_reply, CanCome, Closed, GaveAll, gave_mark}
 use Rattle.session_model.specs.declared.reply.Ended.TheVariants as ended
-use Rattle.session_model.specs.declared.reply.Reply.{Reply}
-use Rattle.session_model.specs.Account.{Account}
-use Rattle.session_model.specs.Step.{StepOutcome, ended_at, step}
-use Rattle.session_model.specs.Thresholds.{notes_over}
-use Rattle.stream_reader.specs.Reader.{NextGives, ReaderView, Takes, at_mark, coming, nothing}
-use Rattle.thread_core.specs.CoreView.{CoreView}
-use Rattle.thread_core.specs.Stands.{CoreStands}
-use Rattle.thread_session.specs.SessionView.{SessionView}
-use Rattle.thread_session.specs.Stands.{Stands}
-use Rattle.thread_session.specs.Follows.{FollowsAs, FollowsTo, consuming, expecting, run_reply}
-use Rattle.thread_session.specs.Prospects.{CanCome}
 use Rattle.thread_session.proofs.Possible.{came_to_mark, nothing_left}
 use Rattle.thread_session.proofs.Outcomes.{ran_to, short, whole}
 use Rattle.thread_session.proofs.Runs.{Running}
-use Rattle.stream_reader.proofs.Giving.{Closed, GaveAll, gave_mark}
 
 -- a core stands whatever is to come
 pub core_at : (book : Book) (core : CoreView) (a : Account) (rest : List Occ) (mark : Mark) → CoreStands book core a → CoreStands book core (record a { rest = rest; mark = mark })

@@ -1,9 +1,6 @@
 -- The count of a session's source does not fall.
-use Rattle.std.proofs.Common.{◌≡◌, ℕ, ◌≤◌, arith, Option, Some, None}
-use Rattle.std.specs.Prelude.{is_some}
-use Rattle.std.specs.Option.{option_map, option_map_or}
-use Rattle.stream_reader.specs.Reader.{ReaderView, SourceView, faults_of}
-use Rattle.thread_session.specs.Faults.{FaultsKept, fault_count}
+use Rattle.thread_session.proofs.Words.{◌≡◌, ℕ, ◌≤◌, arith, Option, Some, None, is_some, option_map, option_map_or, ReaderView, SourceView, faults_of}
+use Rattle.thread_session.proofs.Words.{FaultsKept, fault_count}
 
 abbrev count_of : Option SourceView → Option ℕ
 count_of source = option_map (λ (s : SourceView). s.faults) source

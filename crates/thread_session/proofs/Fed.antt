@@ -1,14 +1,6 @@
 -- A session whose stream grows stands for the account that goes on so.
-use Rattle.std.proofs.Common.{◌≡◌, ◌≢◌, ◌++◌, ℕ, List, ap₂, sym, subst}
-use Rattle.stream_reader.specs.declared.feeding.Fed.{Fed}
-use Rattle.stream_reader.specs.declared.feeding.Fed.TheVariants.{Whole}
-use Rattle.stream_reader.specs.Feeding.{Grows, fed_with, text_says}
-use Rattle.stream_reader.specs.Reader.{ReaderView}
-use Rattle.thread_core.specs.CoreView.{CoreView}
-use Rattle.thread_core.specs.Stands.{CoreStands}
-use Rattle.thread_session.specs.Feeding.{Feeds, growing}
-use Rattle.thread_session.specs.SessionView.{SessionView}
-use Rattle.thread_session.specs.Stands.{to_come}
+use Rattle.thread_session.proofs.Words.{◌≡◌, ◌≢◌, ◌++◌, ℕ, List, ap₂, sym, subst, Fed, Whole, Grows, fed_with, text_says, ReaderView, CoreView}
+use Rattle.thread_session.proofs.Words.{CoreStands, Feeds, growing, SessionView, to_come}
 use Rattle.thread_session.proofs.Endings.{core_at}
 
 abbrev session : CoreView → ReaderView → SessionView

@@ -1,16 +1,7 @@
 -- Told or not, notes are appended to what a handler was told, and none is taken back.
 use Rattle.std.proofs.Common.{ℕ, List, [], ◌++◌, Result, Ok, Err, ap, sym, ◌∙◌, append_assoc, append-nil, take}
-use Rattle.std.specs.Prelude.{IfOk, OnErr}
-use Rattle.overflow_dispatch.specs.Notes.{Grown}
-use Rattle.overflow_dispatch.specs.declared.handler.Note.{Note}
-use Rattle.postfix_rules.specs.Presets.{Book}
-use Rattle.session_model.specs.CallTypes.{Call}
-use Rattle.session_model.specs.declared.reply.Reply.{Reply}
-use Rattle.session_model.specs.Step.{step}
-use Rattle.session_model.specs.Thresholds.{notes_at, notes_over}
-use Rattle.thread_session.specs.SessionView.{SessionView}
-use Rattle.thread_session.specs.Stands.{IsReady}
-use Rattle.thread_session.specs.Follows.{FollowsAs, IsCut, expecting}
+use Rattle.thread_session.proofs.Words.{IfOk, OnErr, Grown, Note, Book, Call, Reply, step, notes_at, notes_over, SessionView, IsReady, FollowsAs}
+use Rattle.thread_session.proofs.Words.{IsCut, expecting}
 
 pub grown_same : (notes : List Note) → Grown notes notes
 grown_same notes = ([], sym (append-nil notes))

@@ -11,3 +11,4 @@ pub mod Rooms
 pub mod Calling
 pub mod Opened
 pub mod Growing
+pub mod Words

@@ -1,17 +1,7 @@
 -- A session of a new core.
-use Rattle.std.proofs.Common.{◌≡◌, ℕ, [], ap, sym, ◌∙◌, subst}
-use Rattle.papi_base.specs.Streams.{Coming, Dry}
-use Rattle.postfix_rules.specs.Presets.{Book}
-use Rattle.postfix_rules.specs.Fitting.{BookFits}
-use Rattle.event_sets.specs.AtRest.{Widths}
-use Rattle.session_model.specs.Account.{opening}
-use Rattle.session_model.specs.Fitness.{IsShape}
-use Rattle.stream_reader.specs.Reader.{ReaderView, coming}
+use Rattle.thread_session.proofs.Words.{◌≡◌, ℕ, [], ap, sym, ◌∙◌, subst, Coming, Dry, Book, BookFits, Widths, opening, IsShape, ReaderView, coming}
+use Rattle.thread_session.proofs.Words.{CoreView, opening_core, AgreesWith, CoreStands, opening_agrees, opening_stands, IsNew, IsReady, Stands}
 use Rattle.std.specs.Prelude.{Some}
-use Rattle.thread_core.specs.CoreView.{CoreView, opening_core}
-use Rattle.thread_core.specs.Stands.{AgreesWith, CoreStands}
-use Rattle.thread_core.proofs.Opening.{opening_agrees, opening_stands}
-use Rattle.thread_session.specs.Stands.{IsNew, IsReady, Stands}
 
 pub new_ready : (book : Book) (core : CoreView) (reader : ReaderView) → IsNew core → BookFits core.shape book → IsReady book (record { core = core; reader = reader })
 new_ready book core reader new fits = record { agrees = subst (AgreesWith book) (sym new.opening) (opening_agrees book core.thread core.shape [] Dry new.shaped fits) }

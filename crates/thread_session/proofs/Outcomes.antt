@@ -1,19 +1,9 @@
 -- The step of a run, by the occurrences that it takes.
-use Rattle.std.proofs.Common.{◌≡◌, ℕ, ◌<◌, ◌≤◌, List, [], ◌++◌, length, take, drop, min, ap, ap₂, sym, ◌∙◌, arith, length-append, Bool, nat_lt}
-use Rattle.std.proofs.Math.Nat.{min-eq_left, min-eq_right}
-use Rattle.std.proofs.Math.Seq.{take-append_seam, drop-append_seam, take-length, drop-length}
-use Rattle.std.proofs.lemmas.Bool.{le-ltb, lt-ltb}
-use Rattle.papi_base.specs.declared.occurrence.Occ.{Occ}
-use Rattle.papi_base.specs.Streams.{Mark, Dry}
-use Rattle.postfix_rules.specs.Presets.{Book}
-use Rattle.event_sets.specs.AtRest.{Widths}
-use Rattle.call_type.specs.declared.call.Call.TheVariants.{Run}
-use Rattle.session_model.specs.declared.reply.Ended.{Ended}
+use Rattle.thread_session.proofs.Words.{◌≡◌, ℕ, ◌<◌, ◌≤◌, List, [], ◌++◌, length, take, drop, min, ap, ap₂, sym, ◌∙◌, arith, length-append, Bool}
+use Rattle.thread_session.proofs.Words.{nat_lt, min-eq_left, min-eq_right, take-append_seam, drop-append_seam, take-length, drop-length, le-ltb}
+use Rattle.thread_session.proofs.Words.{lt-ltb, Occ, Mark, Dry, Book, Widths, Run, Ended, Account, StepOutcome, ended_at, ran, ran_reply, step}
+use Rattle.thread_session.proofs.Words.{notes_over, expecting}
 use Rattle.session_model.specs.declared.reply.Ended.TheVariants as ended
-use Rattle.session_model.specs.Account.{Account}
-use Rattle.session_model.specs.Step.{StepOutcome, ended_at, ran, ran_reply, step}
-use Rattle.session_model.specs.Thresholds.{notes_over}
-use Rattle.thread_session.specs.Follows.{expecting}
 
 -- a run that took these, and leaves that to come
 abbrev pub ran_to : Book → Account → List Occ → List Occ → Mark → Ended → StepOutcome

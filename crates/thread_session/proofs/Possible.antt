@@ -1,14 +1,8 @@
 -- What can come of a reader, answer by answer.
-use Rattle.std.proofs.Common.{◌≡◌, ◌⊎◌, ℕ, true, List, [], ◌∷◌, ◌++◌, refl, ap, ap₂, sym, ◌∙◌, subst, append-nil, append_assoc, IfSome, Option, Some, None, inl, inr}
-use Rattle.std.specs.Option.{option_map}
-use Rattle.papi_base.specs.Outside.{Tape}
-use Rattle.papi_base.specs.Streams.{Coming, Mark, Dry}
-use Rattle.papi_base.specs.declared.outside.Ending.{Ending}
-use Rattle.papi_base.specs.declared.occurrence.Occ.{Occ}
-use Rattle.stream_reader.specs.declared.next.Next.{Next}
+use Rattle.thread_session.proofs.Words.{◌≡◌, ◌⊎◌, ℕ, true, List, [], ◌∷◌, ◌++◌, refl, ap, ap₂, sym, ◌∙◌, subst, append-nil, append_assoc, IfSome}
+use Rattle.thread_session.proofs.Words.{Option, Some, None, inl, inr, option_map, Tape, Coming, Mark, Dry, Ending, Occ, Next, Closes, GoesOn}
+use Rattle.thread_session.proofs.Words.{ReaderView, Takes, at_mark, before_rest, comes, follows, nothing, tape_of, CanCome}
 use Rattle.stream_reader.specs.declared.next.Next.TheVariants as next
-use Rattle.stream_reader.specs.Reader.{Closes, GoesOn, ReaderView, Takes, at_mark, before_rest, comes, follows, nothing, tape_of}
-use Rattle.thread_session.specs.Prospects.{CanCome}
 
 told_before : (taken : List ℕ) (was now : Option Tape) (tape : Tape) → was ≡ option_map (before_rest taken) now → IfSome now (λ t. t ≡ tape) → IfSome was (λ t. t ≡ before_rest taken tape)
 told_before taken was None tape e h = rw e tt

@@ -1,27 +1,12 @@
 -- A run, occurrence by occurrence.
-use Rattle.std.proofs.Common.{◌≡◌, ℕ, ◌+◌, ◌≤◌, List, [], ◌∷◌, ◌++◌, length, map, refl, ap, ap₂, sym, subst, ◌∙◌, arith, append_assoc, append-nil, length-append, Option, Some}
-use Rattle.std.proofs.lemmas.List.{length-map}
-use Rattle.std.specs.Option.{option_map}
-use Rattle.papi_base.specs.declared.limits.TheConstants.{MOST_OCCURRENCES}
-use Rattle.papi_base.specs.declared.occurrence.Occ.{Occ}
-use Rattle.papi_base.specs.Streams.{Coming}
-use Rattle.overflow_dispatch.specs.declared.handler.Note.{Note}
-use Rattle.postfix_rules.specs.Presets.{Book}
-use Rattle.session_model.specs.Account.{Account, Kept}
-use Rattle.session_model.specs.Thresholds.{note, notes_at, notes_over}
+use Rattle.thread_session.proofs.Words.{◌≡◌, ℕ, ◌+◌, ◌≤◌, List, [], ◌∷◌, ◌++◌, length, map, refl, ap, ap₂, sym, subst, ◌∙◌, arith, append_assoc}
+use Rattle.thread_session.proofs.Words.{append-nil, length-append, Option, Some, length-map, option_map, MOST_OCCURRENCES, Occ, Coming, Note, Book}
+use Rattle.thread_session.proofs.Words.{Account, Kept, note, notes_at, notes_over, GaveOne, NextGives, ReaderView, Takes, coming, faults_of, CoreView}
+use Rattle.thread_session.proofs.Words.{AgreesWith, CoreStands, consumed, AreInStep, SessionView, consuming, CanCome, FaultsKept, fault_count}
+use Rattle.thread_session.proofs.Words.{IsReady, is_some, GaveAll, gave_more, gave_none}
 use Rattle.stream_reader.specs.declared.next.Next.TheVariants as next
-use Rattle.stream_reader.specs.Reader.{GaveOne, NextGives, ReaderView, Takes, coming, faults_of}
-use Rattle.thread_core.specs.CoreView.{CoreView}
-use Rattle.thread_core.specs.Stands.{AgreesWith, CoreStands, consumed}
-use Rattle.thread_session.specs.SessionView.{AreInStep, SessionView}
-use Rattle.thread_session.specs.Follows.{consuming}
-use Rattle.thread_session.specs.Prospects.{CanCome}
-use Rattle.thread_session.specs.Faults.{FaultsKept, fault_count}
-use Rattle.thread_session.specs.Stands.{IsReady}
 use Rattle.thread_session.proofs.Failing.{kept_on, kept_same}
-use Rattle.std.specs.Prelude.{is_some}
 use Rattle.thread_session.proofs.Possible.{came_more}
-use Rattle.stream_reader.proofs.Giving.{GaveAll, gave_more, gave_none}
 
 pub notes_over-append : (book : Book) (thread : ℕ) (sets : List (Option Kept)) (past os ps : List Occ) → notes_over book thread sets past (os ++ ps) ≡ notes_over book thread sets past os ++ notes_over book thread sets (past ++ os) ps
 notes_over-append book thread sets past [] ps = ap (λ (xs : List Occ). notes_over book thread sets xs ps) (sym (append-nil past))

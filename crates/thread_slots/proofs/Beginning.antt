@@ -1,20 +1,11 @@
 -- What the loops that start a set do, one item more.
 use Rattle.thread_slots.proofs.Words.{◌≡◌, ℕ, zero, suc, ◌+◌, ◌≤◌, ◌⊎◌, inl, inr, false, ◌&&◌, List, [], ◌∷◌, ◌++◌, length, get_or, set, take, drop}
-use Rattle.thread_slots.proofs.Words.{replicate, refl, ap, ap₂, sym, ◌∙◌, arith, Option, Some, None, slice_get, length-append, ◌==◌, nat_lt, option_map_or}
-use Rattle.thread_slots.proofs.Words.{position_or_len, cond-true, cond-false, eq-eqb, ne_eqb, lt-ltb, slice_get-get_or, slice_get_within, number_at, Native}
-use Rattle.thread_slots.proofs.Words.{EventRef, Domain, Register, IsThreshold, Book, lead, same_native, counters_for, AtRest, Widths, leads, set_natives}
-use Rattle.thread_slots.proofs.Words.{widths_at, IsFit, threshold_among, Pin, place_of_lead, programs}
-use Rattle.std.proofs.Common.{◌-◌, ◌<◌, true}
-use Rattle.std.proofs.lemmas.Bool.{and_from, and_left, and_right}
-use Rattle.std.proofs.Math.Seq.{take-append_seam}
-use Rattle.std.proofs.lemmas.List.{drop-replicate, get_or-replicate, length-replicate}
-use Rattle.counter_unit.specs.Counting.{begun}
-use Rattle.counter_unit.proofs.Counts.{begun_is}
-use Rattle.event_sets.proofs.Agreeing.{held_have_natives}
-use Rattle.postfix_rules.specs.Fitting.{IsHeld}
-use Rattle.event_sets.specs.AtRest.{is_bad_slice}
-use Rattle.thread_slots.specs.Pinned.{armed_event, armed_from}
-use Rattle.thread_slots.specs.Starting.{IsArmable}
+use Rattle.thread_slots.proofs.Words.{replicate, refl, ap, ap₂, sym, ◌∙◌, arith, Option, Some, None, slice_get, length-append, ◌==◌, nat_lt}
+use Rattle.thread_slots.proofs.Words.{option_map_or, position_or_len, cond-true, cond-false, eq-eqb, ne_eqb, lt-ltb, slice_get-get_or}
+use Rattle.thread_slots.proofs.Words.{slice_get_within, number_at, Native, EventRef, Domain, Register, IsThreshold, Book, lead, same_native}
+use Rattle.thread_slots.proofs.Words.{counters_for, AtRest, Widths, leads, set_natives, widths_at, IsFit, threshold_among, Pin, place_of_lead}
+use Rattle.thread_slots.proofs.Words.{programs, ◌-◌, ◌<◌, true, and_from, and_left, and_right, take-append_seam, drop-replicate, get_or-replicate}
+use Rattle.thread_slots.proofs.Words.{length-replicate, begun, begun_is, held_have_natives, IsHeld, is_bad_slice, armed_event, armed_from, IsArmable}
 use Rattle.thread_slots.proofs.Lists.{all_at, drop_at}
 use Rattle.thread_slots.proofs.Placing.{ArePlaced, above, get_position, lead_among, placed}
 

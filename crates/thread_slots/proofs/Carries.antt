@@ -1,14 +1,8 @@
 -- Which pins' counters carry.
-use Rattle.thread_slots.proofs.Words.{◌≡◌, ℕ, ◌+◌, ◌≤◌, Bool, false, List, [], ◌∷◌, length, get_or, refl, ap, ◌∙◌, Option, Some, None, slice_get, ◌==◌}
-use Rattle.thread_slots.proofs.Words.{if◌then◌else◌, nat_lt, cond-false, Occ, Native, Domain, weight_of, AreWidths, weight_of-le, Register, moved_place}
-use Rattle.thread_slots.proofs.Words.{register_at, added, Pin, programs, ArePinned}
-use Rattle.std.proofs.Common.{◌/◌, true}
-use Rattle.std.specs.Int.{bit_at}
-use Rattle.std.proofs.lemmas.Nat.Bits.{bit_at-zero}
-use Rattle.counter_unit.specs.Counting.{all_carries, bits_of, carries, period}
-use Rattle.counter_unit.proofs.Bits.{bit_at-bits_of}
-use Rattle.counter_unit.proofs.Steps.{carries_at}
-use Rattle.overflow_dispatch.specs.Passing.{carried_from}
+use Rattle.thread_slots.proofs.Words.{◌≡◌, ℕ, ◌+◌, ◌≤◌, Bool, false, List, [], ◌∷◌, length, get_or, refl, ap, ◌∙◌, Option, Some, None, slice_get}
+use Rattle.thread_slots.proofs.Words.{◌==◌, if◌then◌else◌, nat_lt, cond-false, Occ, Native, Domain, weight_of, AreWidths, weight_of-le, Register}
+use Rattle.thread_slots.proofs.Words.{moved_place, register_at, added, Pin, programs, ArePinned, ◌/◌, true, bit_at, bit_at-zero, all_carries, bits_of}
+use Rattle.thread_slots.proofs.Words.{carries, period, bit_at-bits_of, carries_at, carried_from}
 use Rattle.thread_slots.proofs.Programs.{programs-at, length-programs}
 
 bit_test : (b : Bool) → ((if b then 1 else 0) == 1) ≡ b

@@ -1,11 +1,7 @@
 -- Where natives are looked up by their keys.
-use Rattle.thread_slots.proofs.Words.{◌≡◌, ℕ, zero, suc, ◌+◌, ◌≤◌, inl, inr, Bool, false, List, [], ◌∷◌, length, get_or, set, drop, refl, ap, sym, ◌∙◌}
-use Rattle.thread_slots.proofs.Words.{arith, Some, slice_get, position_or_len, slice_get_within, get_or-set_same, Native, same_native}
-use Rattle.std.proofs.Common.{◌<◌, true}
-use Rattle.std.proofs.lemmas.Bool.{cases_eq, cases_lt}
-use Rattle.std.proofs.lemmas.List.{get_or-set_other, length-set}
-use Rattle.postfix_rules.proofs.Equal.{native_is}
-use Rattle.thread_slots.specs.FirstPlaces.{AreFirst, key_of}
+use Rattle.thread_slots.proofs.Words.{◌≡◌, ℕ, zero, suc, ◌+◌, ◌≤◌, inl, inr, Bool, false, List, [], ◌∷◌, length, get_or, set, drop, refl, ap, sym}
+use Rattle.thread_slots.proofs.Words.{◌∙◌, arith, Some, slice_get, position_or_len, slice_get_within, get_or-set_same, Native, same_native, ◌<◌, true}
+use Rattle.thread_slots.proofs.Words.{cases_eq, cases_lt, get_or-set_other, length-set, native_is, AreFirst, key_of}
 use Rattle.thread_slots.proofs.Lists.{same_some}
 
 -- so it is with the natives before a place

@@ -1,24 +1,11 @@
 -- The natives of a fit set have counters of their own, and its thresholds fit them.
-use Rattle.thread_slots.proofs.Words.{◌≡◌, ℕ, zero, suc, ◌+◌, ◌≤◌, ◌⊎◌, inl, inr, Bool, false, ◌&&◌, List, [], ◌∷◌, length, get_or, refl, ap, sym, subst, ◌∙◌}
-use Rattle.thread_slots.proofs.Words.{arith, Option, Some, None, slice_get, nat_lt, unwrap_or, option_map_or, position_or_len, cond-true, cond-false, lt-ltb}
-use Rattle.thread_slots.proofs.Words.{slice_get_within, get_or_from_slice_get, Native, EventRef, IsThreshold, Book, lead, same_native, counters_for, AtRest}
-use Rattle.thread_slots.proofs.Words.{Widths, set_natives, widths_at, leads, threshold_among, Pin, pins_from, ArePinned, IsFit}
-use Rattle.std.proofs.Common.{◌<◌, ◌^◌, true, ◌||◌}
-use Rattle.std.specs.Prelude.{is_some}
-use Rattle.std.proofs.lemmas.Bool.{cases_Bool, ltb-true, and_parts}
-use Rattle.std.proofs.lemmas.List.{length-map}
-use Rattle.std.proofs.Math.Pow.{pow_mono}
-use Rattle.counter_alloc.specs.Assignments.{IsAssignment, Has}
-use Rattle.counter_alloc.specs.Listing.{assigns, least, is_assignable}
-use Rattle.counter_alloc.specs.Masks.{AreMasks, masks_of}
-use Rattle.counter_alloc.proofs.Listed.{lists_each, lists_some}
-use Rattle.counter_alloc.proofs.Sets.{has_below}
-use Rattle.postfix_rules.specs.Presets.{natives_of_event}
-use Rattle.postfix_rules.specs.Sameness.{among}
-use Rattle.postfix_rules.proofs.Equal.{native_is, native_self}
-use Rattle.postfix_rules.proofs.Joined.{each_is_among, is_among, none_twice}
-use Rattle.event_sets.specs.AtRest.{least_width}
-use Rattle.thread_slots.specs.Pinned.{pins_of}
+use Rattle.thread_slots.proofs.Words.{◌≡◌, ℕ, zero, suc, ◌+◌, ◌≤◌, ◌⊎◌, inl, inr, Bool, false, ◌&&◌, List, [], ◌∷◌, length, get_or, refl, ap, sym}
+use Rattle.thread_slots.proofs.Words.{subst, ◌∙◌, arith, Option, Some, None, slice_get, nat_lt, unwrap_or, option_map_or, position_or_len, cond-true}
+use Rattle.thread_slots.proofs.Words.{cond-false, lt-ltb, slice_get_within, get_or_from_slice_get, Native, EventRef, IsThreshold, Book, lead}
+use Rattle.thread_slots.proofs.Words.{same_native, counters_for, AtRest, Widths, set_natives, widths_at, leads, threshold_among, Pin, pins_from}
+use Rattle.thread_slots.proofs.Words.{ArePinned, IsFit, ◌<◌, ◌^◌, true, ◌||◌, is_some, cases_Bool, ltb-true, and_parts, length-map, pow_mono}
+use Rattle.thread_slots.proofs.Words.{IsAssignment, Has, assigns, least, is_assignable, AreMasks, masks_of, lists_each, lists_some, has_below}
+use Rattle.thread_slots.proofs.Words.{natives_of_event, among, native_is, native_self, each_is_among, is_among, none_twice, least_width, pins_of}
 use Rattle.thread_slots.proofs.Lists.{all_at, get_at, get-map_some}
 
 -- each of the natives is on a counter of its own that exists

@@ -1,9 +1,7 @@
 -- What is programmed, pin by pin.
-use Rattle.thread_slots.proofs.Words.{◌≡◌, ℕ, zero, suc, ◌+◌, ◌≤◌, List, [], ◌∷◌, length, get_or, set, replicate, refl, ap, subst, ◌∙◌, arith, Option, Some}
-use Rattle.thread_slots.proofs.Words.{None, slice_get, get_or-set_same, Occ, Native, Domain, weight_of, AreWidths, weight_of-le, Register, at_place}
-use Rattle.thread_slots.proofs.Words.{moved_place, register_at, added, Pin, programs, ArePinned}
-use Rattle.std.proofs.lemmas.List.{get_or-set_other, length-set}
-use Rattle.counter_unit.specs.Counting.{all_moved}
+use Rattle.thread_slots.proofs.Words.{◌≡◌, ℕ, zero, suc, ◌+◌, ◌≤◌, List, [], ◌∷◌, length, get_or, set, replicate, refl, ap, subst, ◌∙◌, arith, Option}
+use Rattle.thread_slots.proofs.Words.{Some, None, slice_get, get_or-set_same, Occ, Native, Domain, weight_of, AreWidths, weight_of-le, Register}
+use Rattle.thread_slots.proofs.Words.{at_place, moved_place, register_at, added, Pin, programs, ArePinned, get_or-set_other, length-set, all_moved}
 
 pub pinned-tail : (widths : List ℕ) (p : Pin) (ps : List Pin) → ArePinned widths (p ∷ ps) → ArePinned widths ps
 pinned-tail widths p ps h = record {

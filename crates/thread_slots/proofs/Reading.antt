@@ -1,12 +1,7 @@
 -- The values of events by the places of their natives.
 use Rattle.thread_slots.proofs.Words.{◌≡◌, ℕ, ◌≤◌, List, ◌++◌, length, get_or, map, take, drop, ap, sym, ◌∙◌, arith, pos, length-append, Native}
-use Rattle.thread_slots.proofs.Words.{EventRef, Book, position_or_len, same_native, number_in, event_value}
-use Rattle.std.proofs.Math.Seq.{drop-append_seam, take-append_seam}
-use Rattle.std.proofs.lemmas.List.{length-map}
-use Rattle.std.proofs.lemmas.Simd.{map-map}
-use Rattle.postfix_rules.specs.Presets.{natives_of_event, rule_of_event}
-use Rattle.postfix_rules.specs.Rules.{rule_value}
-use Rattle.thread_slots.specs.EventPlaces.{places_of_event}
+use Rattle.thread_slots.proofs.Words.{EventRef, Book, position_or_len, same_native, number_in, event_value, drop-append_seam, take-append_seam}
+use Rattle.thread_slots.proofs.Words.{length-map, map-map, natives_of_event, rule_of_event, rule_value, places_of_event}
 
 count_is : (book : Book) (natives : List Native) (e : EventRef) → length (places_of_event book natives e) ≡ length (natives_of_event book e)
 count_is book natives e = length-map (natives_of_event book e) (λ n. position_or_len (same_native n) natives)

@@ -1,7 +1,5 @@
 -- The first place where a test holds, one item more.
-use Rattle.thread_slots.proofs.Words.{◌≡◌, ℕ, ◌+◌, List, [], ◌∷◌, ◌++◌, map, drop, ap, ap₂, sym, ◌∙◌}
-use Rattle.thread_slots.proofs.Words.{Some, slice_get}
-use Rattle.std.proofs.Common.{append_assoc}
+use Rattle.thread_slots.proofs.Words.{◌≡◌, ℕ, ◌+◌, List, [], ◌∷◌, ◌++◌, map, drop, ap, ap₂, sym, ◌∙◌, Some, slice_get, append_assoc}
 use Rattle.thread_slots.proofs.Lists.{drop_at}
 
 -- one item more in a loop that goes over two lists

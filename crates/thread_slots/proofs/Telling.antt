@@ -1,18 +1,10 @@
 -- The numbers that are shown are those of the account.
 use Rattle.thread_slots.proofs.Words.{◌≡◌, ℕ, suc, List, [], ◌∷◌, length, get_or, map, refl, ap, ap₂, sym, ◌∙◌, arith, Option, Some, slice_get}
-use Rattle.thread_slots.proofs.Words.{option_map_or, Native, Domain, Occ, Register, at_place, count_on, register_at, active}
-use Rattle.thread_slots.proofs.Words.{estimate, Book, AtRest, Pin, pins_from, Slot, pin_numbers, turn_numbers}
-use Rattle.std.specs.Option.{option_and_then}
+use Rattle.thread_slots.proofs.Words.{option_map_or, Native, Domain, Occ, Register, at_place, count_on, register_at, active, estimate, Book, AtRest}
+use Rattle.thread_slots.proofs.Words.{Pin, pins_from, Slot, pin_numbers, turn_numbers, option_and_then, UnitView, whole, exact_is, Turns}
+use Rattle.thread_slots.proofs.Words.{weight_in_turn, Kept, weighed, estimated_in, total, numbers_in, numbers_shown, unit_numbers, turned}
 use Rattle.std.specs.Prelude.{◌^◌, ◌<◌}
-use Rattle.counter_unit.specs.Counting.{UnitView, whole}
-use Rattle.counter_unit.proofs.Counts.{exact_is}
-use Rattle.multiplex.specs.Turns.{Turns, weight_in_turn}
-use Rattle.session_model.specs.Account.{Kept}
-use Rattle.session_model.specs.Counts.{weighed}
-use Rattle.session_model.specs.Estimates.{estimated_in, total}
 use Rattle.thread_slots.specs.declared.slot.Counting.TheVariants as counting
-use Rattle.thread_slots.specs.Shown.{numbers_in, numbers_shown, unit_numbers}
-use Rattle.thread_slots.specs.Slots.{turned}
 use Rattle.thread_slots.proofs.Lists.{map_same_on}
 
 -- the counts on the pins' counters, if they fit 64 bits

@@ -1,11 +1,9 @@
 -- One turn of the loop that counts the natives of the group that runs.
-use Rattle.thread_slots.proofs.Words.{◌≡◌, ℕ, zero, suc, ◌+◌, List, [], ◌∷◌, ◌++◌, length, get_or, set, take, drop, refl, ap, sym, ◌∙◌, arith, Option, Some}
-use Rattle.thread_slots.proofs.Words.{slice_get, ◌==◌, if◌then◌else◌, cond-true, cond-false, eq-eqb, ne_eqb, in_place_put, in_place_skip, in_place_number, inl, inr, subst, ◌≤◌}
-use Rattle.thread_slots.proofs.Words.{number_at, Occ, Native, Domain, weight_of, with_turn}
-use Rattle.std.proofs.Common.{◌<◌, Bool, true, false, ◌&&◌, ◌||◌}
-use Rattle.std.proofs.lemmas.Bool.{cases_order}
+use Rattle.thread_slots.proofs.Words.{◌≡◌, ℕ, zero, suc, ◌+◌, List, [], ◌∷◌, ◌++◌, length, get_or, set, take, drop, refl, ap, sym, ◌∙◌, arith, Option}
+use Rattle.thread_slots.proofs.Words.{Some, slice_get, ◌==◌, if◌then◌else◌, cond-true, cond-false, eq-eqb, ne_eqb, in_place_put, in_place_skip}
+use Rattle.thread_slots.proofs.Words.{in_place_number, inl, inr, subst, ◌≤◌, number_at, Occ, Native, Domain, weight_of, with_turn, ◌<◌, Bool, true}
+use Rattle.thread_slots.proofs.Words.{false, ◌&&◌, ◌||◌, cases_order, holds, in_mode, share}
 use Rattle.thread_slots.proofs.Lists.{get_at}
-use Rattle.papi_base.specs.Weight.{holds, in_mode, share}
 
 unheld : (event umask mode reaches code : Bool) → code ≡ false → ((event && code && umask && mode) && reaches) ≡ false
 unheld true umask mode reaches code other = rw other refl

@@ -1,14 +1,6 @@
 -- Where a text stands in another one.
-use Rattle.std.proofs.Common.{◌≡◌, ◌∷◌, ◌++◌, ℕ, Bool, true, false, [], length, drop, nat_eq, refl, ap}
-use Rattle.std.proofs.lemmas.Bool.Decides.{Decides-eqb}
-use Rattle.std.proofs.lemmas.Slice.Eq.{starts_is}
-use Rattle.std.specs.Bool.{Decides}
-use Rattle.std.specs.List.{starts_with}
-use Rattle.std.specs.Prelude.{◌||◌}
-use Rattle.std.specs.Str.Iter.{HasSubslice}
-use Rattle.std.proofs.lemmas.Bool.{or_right, or_left}
-use Rattle.tool_output.specs.Lines.{Text}
-use Rattle.tool_output.specs.NativeLists.{stands_in}
+use Rattle.tool_output.proofs.Words.{◌≡◌, ◌∷◌, ◌++◌, ℕ, Bool, true, false, [], length, drop, nat_eq, refl, ap, Decides-eqb, starts_is, Decides}
+use Rattle.tool_output.proofs.Words.{starts_with, ◌||◌, HasSubslice, or_right, or_left, Text, stands_in}
 
 -- it stands at the beginning
 begins : (part text : Text) → starts_with nat_eq text part ≡ true → HasSubslice text part

@@ -7,3 +7,4 @@ pub mod Umasks
 pub mod Rows
 pub mod Openings
 pub mod Natives
+pub mod Words

@@ -1,13 +1,8 @@
 -- Texts of lists, one more item at a time.
 use Rattle.std.proofs.Common.{◌≡◌, ◌∙◌, ◌+◌, ◌-◌, ◌<◌, ◌≤◌, ◌∷◌, ◌++◌, ℕ, Bool, true, false, List, [], cond, filter, get_or, length, map, refl, sym, ap, take, arith, append_assoc, append-nil}
-use Rattle.std.proofs.lemmas.List.{flat_map_more, map-append, replicate-append-replicate, take_more}
-use Rattle.std.proofs.lemmas.List.Elements.{filter-append}
-use Rattle.std.proofs.lemmas.List.FromFn.{length-range_with_len}
-use Rattle.std.proofs.lemmas.List.Sums.{count_by-le-length, sum_by-append}
-use Rattle.std.specs.Int.{from_bool}
-use Rattle.std.specs.List.{count_by, flat_map, range_with_len, sum_by}
-use Rattle.papi_base.proofs.Growing.{range_more}
-use Rattle.tool_output.specs.Lines.{Text, spaces}
+use Rattle.tool_output.proofs.Words.{flat_map_more, map-append, replicate-append-replicate, take_more, filter-append, length-range_with_len}
+use Rattle.tool_output.proofs.Words.{count_by-le-length, sum_by-append, from_bool, count_by, flat_map, range_with_len, sum_by, range_more, Text}
+use Rattle.tool_output.proofs.Words.{spaces}
 
 -- ---- columns
 

@@ -1,17 +1,9 @@
 -- The listed events of components, one more at a time.
-use Rattle.std.proofs.Common.{◌≡◌, ◌∙◌, ◌+◌, ◌*◌, ◌<◌, ◌≤◌, ◌∷◌, ◌++◌, ℕ, Bool, true, false, List, [], Option, Some, filter, get_or, length, map, sym, ap, take, arith, length-append}
-use Rattle.std.proofs.lemmas.List.{take_more}
-use Rattle.std.proofs.lemmas.List.Sums.{count_by-le-length, length-filter}
-use Rattle.std.proofs.lemmas.Option.{get_or_from_slice_get, slice_get_within}
-use Rattle.std.specs.List.{flat_map}
+use Rattle.tool_output.proofs.Words.{◌≡◌, ◌∙◌, ◌+◌, ◌*◌, ◌<◌, ◌≤◌, ◌∷◌, ◌++◌, ℕ, Bool, true, false, List, [], Option, Some, filter, get_or, length}
+use Rattle.tool_output.proofs.Words.{map, sym, ap, take, arith, length-append, take_more, count_by-le-length, length-filter, get_or_from_slice_get}
+use Rattle.tool_output.proofs.Words.{slice_get_within, flat_map, IsTables, ComponentText, EventText, component_text, event_text, Component, EventRow}
+use Rattle.tool_output.proofs.Words.{Text, component_lines, event_lines, full_name, is_chosen, listed_count, listed_events}
 use Rattle.std.specs.Prelude.{slice_get}
-use Rattle.event_tables.specs.Kept.{IsTables}
-use Rattle.event_tables.specs.Tables.{ComponentText, EventText}
-use Rattle.event_tables.specs.Views.{component_text, event_text}
-use Rattle.event_tables.specs.declared.component.Component.{Component}
-use Rattle.event_tables.specs.declared.component.EventRow.{EventRow}
-use Rattle.tool_output.specs.Lines.{Text}
-use Rattle.tool_output.specs.NativeLists.{component_lines, event_lines, full_name, is_chosen, listed_count, listed_events}
 use Rattle.tool_output.proofs.Listed.{counted, kept, passed, pushed, taken_more, unmoved}
 use Rattle.tool_output.proofs.Tables.{few_events}
 

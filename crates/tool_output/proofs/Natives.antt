@@ -1,21 +1,11 @@
 -- The native events of an event, and that they fit the unit.
-use Rattle.std.proofs.Common.{◌≡◌, ◌∙◌, ◌<◌, ◌≤◌, ◌^◌, ◌∷◌, ℕ, true, false, List, [], Option, Some, None, filter, length, map, slice_get, refl, sym, ap, subst, arith}
+use Rattle.tool_output.proofs.Words.{◌≡◌, ◌∙◌, ◌<◌, ◌≤◌, ◌^◌, ◌∷◌, ℕ, true, false, List, [], Option, Some, None, filter, length, map, slice_get, refl}
+use Rattle.tool_output.proofs.Words.{sym, ap, subst, arith, range_with_len, option_and_then, length-map, slice_get-map, slice_get_within, CatalogView}
+use Rattle.tool_output.proofs.Words.{shape_of, Fits, AtRest, is_other, widths_at, IsComponent, IsEvent, IsTables, ComponentText, EventText, MaskText}
+use Rattle.tool_output.proofs.Words.{event_at, widths_of, Found, native_of, Native, all_at, takes}
 use Rattle.std.specs.Prelude.{option_map, unwrap_or}
-use Rattle.std.specs.List.{range_with_len}
-use Rattle.std.specs.Option.{option_and_then}
-use Rattle.std.proofs.lemmas.List.{length-map}
-use Rattle.std.proofs.lemmas.Option.{slice_get-map, slice_get_within}
-use Rattle.component_table.specs.Catalogs.{CatalogView, shape_of}
-use Rattle.postfix_rules.specs.Fitting.{Fits}
-use Rattle.event_sets.specs.AtRest.{AtRest, is_other, widths_at}
-use Rattle.event_tables.specs.Kept.{IsComponent, IsEvent, IsTables}
-use Rattle.event_tables.specs.Tables.{ComponentText, EventText, MaskText, event_at, widths_of}
-use Rattle.name_encoder.specs.Names.{Found, native_of}
 use Rattle.papi_base.specs.declared.native.EventRef.TheVariants as event
-use Rattle.papi_base.specs.declared.native.Native.{Native}
-use Rattle.papi_base.proofs.Steps.{all_at}
 use Rattle.tool_output.specs.Candidates.{alone, found, natives_by, natives_in_row, natives_of_component, natives_of_event, no_modifiers, with_umask}
-use Rattle.tool_output.specs.Choosing.{takes}
 use Rattle.tool_output.proofs.Rows.{none_of_each, none_of_rows}
 
 -- ---- an event in its row

@@ -1,23 +1,9 @@
 -- What a set takes whose natives are on the counters of a component.
 use Rattle.std.proofs.Common.{◌≡◌, ◌∙◌, ◌<◌, ◌^◌, ◌++◌, ◌∷◌, ◌&&◌, ℕ, zero, suc, Bool, true, false, List, [], Option, Some, None, Result, Ok, Err, length, slice_get, refl, sym, ap, subst, arith}
-use Rattle.std.specs.Prelude.{◌↔◌, All, IsTrue, OnErr, is_none, is_ok, nat_le, slice_index}
-use Rattle.std.specs.Option.{option_map}
-use Rattle.std.proofs.lemmas.Bool.Decides.{nat_tests}
-use Rattle.std.proofs.lemmas.Option.{get_or_from_slice_get, slice_get_within}
-use Rattle.counter_alloc.specs.Assignments.{Assignable}
-use Rattle.counter_alloc.specs.Listing.{is_assignable}
-use Rattle.counter_alloc.specs.Masks.{AreMasks, masks_of}
-use Rattle.counter_alloc.proofs.Fitting.{is_assignable_false, is_assignable_true}
-use Rattle.event_sets.specs.Adding.{add_refusal}
-use Rattle.event_sets.specs.Assigning.{blamed_unless, clash_of}
-use Rattle.event_sets.specs.AtRest.{Widths, clash_with, is_other, widths_at}
-use Rattle.event_sets.specs.Sets.{IsSound, SetView}
-use Rattle.event_sets.specs.declared.refusal.Refusal.TheVariants.{Conflict}
-use Rattle.event_sets.proofs.Adding.{Ready, can_take, clash_is, full_of_natives, not_full, refused_full}
-use Rattle.papi_base.specs.declared.native.EventRef.{EventRef}
-use Rattle.papi_base.specs.declared.native.Native.{Native}
-use Rattle.postfix_rules.specs.Presets.{Book, natives_of_event}
-use Rattle.postfix_rules.specs.Sameness.{joined_by}
+use Rattle.tool_output.proofs.Words.{◌↔◌, All, IsTrue, OnErr, is_none, is_ok, nat_le, slice_index, option_map, nat_tests, get_or_from_slice_get}
+use Rattle.tool_output.proofs.Words.{slice_get_within, Assignable, is_assignable, AreMasks, masks_of, is_assignable_false, is_assignable_true}
+use Rattle.tool_output.proofs.Words.{add_refusal, blamed_unless, clash_of, Widths, clash_with, is_other, widths_at, IsSound, SetView, Conflict, Ready}
+use Rattle.tool_output.proofs.Words.{can_take, clash_is, full_of_natives, not_full, refused_full, EventRef, Native, Book, natives_of_event, joined_by}
 
 -- ---- the counters of a component
 

@@ -1,11 +1,6 @@
 -- What is kept of the events of some rows, one row after another.
-use Rattle.std.proofs.Common.{◌≡◌, ◌∙◌, ◌+◌, ◌++◌, ◌∷◌, ℕ, Bool, false, List, [], filter, map, refl, sym, ap, append_assoc, arith}
-use Rattle.std.proofs.lemmas.List.{append-nil}
-use Rattle.std.proofs.lemmas.List.Concat.{flat_map-append}
-use Rattle.std.proofs.lemmas.List.Elements.{filter-append}
-use Rattle.std.proofs.lemmas.List.FromFn.{map-range_with_len_more}
-use Rattle.std.specs.List.{flat_map, range_with_len}
-use Rattle.papi_base.proofs.Growing.{range_more}
+use Rattle.tool_output.proofs.Words.{◌≡◌, ◌∙◌, ◌+◌, ◌++◌, ◌∷◌, ℕ, Bool, false, List, [], filter, map, refl, sym, ap, append_assoc, arith, append-nil}
+use Rattle.tool_output.proofs.Words.{flat_map-append, filter-append, map-range_with_len_more, flat_map, range_with_len, range_more}
 
 module _ {X : Type 0} (p : X → Bool) where
   kept_both : (start so_far after xs ys : List X) → so_far ≡ start ++ filter p xs → after ≡ so_far ++ filter p ys → after ≡ start ++ filter p (xs ++ ys)

@@ -1,15 +1,9 @@
 -- What is at a place of the tables.
-use Rattle.std.proofs.Common.{◌≡◌, ◌∙◌, ◌<◌, ◌≤◌, ◌∷◌, ℕ, zero, suc, List, [], Option, Some, None, get_or, length, map, refl, sym, ap, string_bytes, arith}
-use Rattle.std.proofs.lemmas.List.{length-map}
-use Rattle.std.proofs.lemmas.Option.{slice_get-map, slice_get-get_or}
-use Rattle.std.specs.Option.{option_map, option_map_or}
+use Rattle.tool_output.proofs.Words.{◌≡◌, ◌∙◌, ◌<◌, ◌≤◌, ◌∷◌, ℕ, zero, suc, List, [], Option, Some, None, get_or, length, map, refl, sym, ap}
+use Rattle.tool_output.proofs.Words.{string_bytes, arith, length-map, slice_get-map, slice_get-get_or, option_map, option_map_or, all_at, IsComponent}
+use Rattle.tool_output.proofs.Words.{IsTables, ComponentText, CounterText, Component, Counter}
 use Rattle.std.specs.Prelude.{slice_get}
-use Rattle.papi_base.proofs.Steps.{all_at}
-use Rattle.event_tables.specs.Kept.{IsComponent, IsTables}
-use Rattle.event_tables.specs.Tables.{ComponentText, CounterText}
 use Rattle.event_tables.specs.Views.{component_text, counter_text}
-use Rattle.event_tables.specs.declared.component.Component.{Component}
-use Rattle.event_tables.specs.declared.component.Counter.{Counter}
 
 -- the name of a counter
 pub counter_named : (counters : List Counter) (k : ℕ) (d : Counter) → k < length counters

@@ -1,12 +1,8 @@
 -- The text of a line, one more item at a time.
-use Rattle.std.proofs.Common.{◌≡◌, ◌∙◌, ◌≤◌, ◌+◌, ◌-◌, ◌∷◌, ◌++◌, ℕ, zero, suc, Bool, true, false, List, [], Some, cond, drop, filter, length, map, min, take, sym, ap, arith, append_assoc}
-use Rattle.std.proofs.lemmas.List.{append-nil, drop_all, map-append, map-id, take_all}
-use Rattle.std.proofs.lemmas.List.Concat.{flat_map-append}
-use Rattle.std.proofs.lemmas.List.FromFn.{filter_of_map_range_with_len_more}
+use Rattle.tool_output.proofs.Words.{◌≡◌, ◌∙◌, ◌≤◌, ◌+◌, ◌-◌, ◌∷◌, ◌++◌, ℕ, zero, suc, Bool, true, false, List, [], Some, cond, drop, filter, length}
+use Rattle.tool_output.proofs.Words.{map, min, take, sym, ap, arith, append_assoc, append-nil, drop_all, map-append, map-id, take_all}
+use Rattle.tool_output.proofs.Words.{flat_map-append, filter_of_map_range_with_len_more, bit_at, range_with_len, drop_at, take_at}
 use Rattle.std.specs.Prelude.{◌==◌, slice_get, zip}
-use Rattle.std.specs.Int.{bit_at}
-use Rattle.std.specs.List.{range_with_len}
-use Rattle.papi_base.proofs.Steps.{drop_at, take_at}
 use Rattle.tool_output.specs.Replies.{Text, members_below, spaced}
 
 -- ---- texts after spaces

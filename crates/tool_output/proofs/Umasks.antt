@@ -1,15 +1,7 @@
 -- The native event of one umask alone.
-use Rattle.std.proofs.Common.{◌≡◌, ◌∙◌, ◌+◌, ◌*◌, ◌%◌, ◌<◌, ◌≤◌, ◌^◌, ◌∷◌, ℕ, zero, suc, Bool, true, false, List, [], Some, length, map, slice_get, take, refl, ap, ap₂, arith}
-use Rattle.std.proofs.Math.ListN.{set}
-use Rattle.std.specs.List.{AllByRecursion}
-use native.Mathlib.Numerals.{unary_clauses}
-use Rattle.std.proofs.Math.Pow.{pow-lt}
-use Rattle.std.specs.Int.RustNames.{bit_or}
-use Rattle.std.specs.Int.Bits.{or_zero_l, or_zero_r}
-use Rattle.event_tables.specs.Tables.{MaskText}
-use Rattle.name_encoder.specs.Flags.{bits_of}
-use Rattle.name_encoder.specs.Names.{values_of}
-use Rattle.tool_output.specs.Candidates.{alone}
+use Rattle.tool_output.proofs.Words.{◌≡◌, ◌∙◌, ◌+◌, ◌*◌, ◌%◌, ◌<◌, ◌≤◌, ◌^◌, ◌∷◌, ℕ, zero, suc, Bool, true, false, List, [], Some, length, map}
+use Rattle.tool_output.proofs.Words.{slice_get, take, refl, ap, ap₂, arith, set, AllByRecursion, unary_clauses, pow-lt, bit_or, or_zero_l, or_zero_r}
+use Rattle.tool_output.proofs.Words.{MaskText, bits_of, values_of, alone}
 
 no_bits : (masks : List MaskText) → bits_of (map (λ m. false) masks) ≡ 0
 unfolding bits_of

@@ -1,13 +1,7 @@
 -- Arguments that are added to a command in turn are its arguments in order.
-use Rattle.std.proofs.Common.{◌≡◌, ◌∙◌, ◌&&◌, Bool, true, false, List, [], ◌∷◌, ◌++◌, is_some, map, not, ap, sym, refl, append-nil, append_assoc}
-use Rattle.std.specs.List.{list_all}
-use Rattle.clap.proofs.WalkLemmas.{both}
-use Rattle.clap.specs.Built.{AddsArg, AddsInTurn}
-use Rattle.clap.specs.Walk.{is_empty, is_simple_arg}
-use Rattle.clap.specs.Words.{App, Rule, app_of, is_simple_and_free, rule_of, with_rule}
-use Rattle.clap.specs.declared.builder.arg.Arg.{Arg}
-use Rattle.clap.specs.declared.builder.command.Command.{Command}
-use Rattle.tool_words.specs.Words.{app_with}
+use Rattle.tool_words.proofs.Words.{◌≡◌, ◌∙◌, ◌&&◌, Bool, true, false, List, [], ◌∷◌, ◌++◌, is_some, map, not, ap, sym, refl, append-nil}
+use Rattle.tool_words.proofs.Words.{append_assoc, list_all, both, AddsArg, AddsInTurn, is_empty, is_simple_arg, App, Rule, app_of, is_simple_and_free}
+use Rattle.tool_words.proofs.Words.{rule_of, with_rule, Arg, Command, app_with}
 
 abbrev pub with_rules : App → List Rule → App
 with_rules app rules = record app { top = record app.top { rules = app.top.rules ++ rules } }

@@ -1,9 +1,5 @@
 -- The texts between the commas of a list.
-use Rattle.std.proofs.Common.{◌≡◌, ◌≤◌, ◌==◌, List, length, map, ap, arith}
-use Rattle.std.proofs.lemmas.List.{length-map}
-use Rattle.std.proofs.lemmas.List.Splits.{length-slice_split}
-use Rattle.clap.specs.Words.{Text}
-use Rattle.tool_words.specs.EventList.{parts_of}
+use Rattle.tool_words.proofs.Words.{◌≡◌, ◌≤◌, ◌==◌, List, length, map, ap, arith, length-map, length-slice_split, Text, parts_of}
 
 some_part : (list : Text) → 1 ≤ length (parts_of list)
 unfolding parts_of

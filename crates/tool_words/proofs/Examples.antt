@@ -1,27 +1,9 @@
 -- What written out words ask for.
-use Rattle.std.proofs.Common.{◌≡◌, ℕ, zero, suc, Bool, true, false, List, [], ◌∷◌, Option, Some, None, refl, codes, map}
-use Rattle.clap.specs.Words.{Text}
-use Rattle.clap.proofs.OnLiterals.{clap_on_literals}
+use Rattle.tool_words.proofs.Words.{◌≡◌, ℕ, zero, suc, Bool, true, false, List, [], ◌∷◌, Option, Some, None, refl, codes, map, Text, clap_on_literals}
+use Rattle.tool_words.proofs.Words.{Avail, Decode, Encode, EventChooser, NativeAvail, Profil, Regions, Run, Soak, EventKind, Native, Preset, rule}
+use Rattle.tool_words.proofs.Words.{avail_form, chooser_form, encode_form, form, PresetWords, decode_form, native_avail_form, is_cpu, profil_form}
+use Rattle.tool_words.proofs.Words.{parts_of, regions_form, run_form, script_words_in, soak_form, read_by}
 use Rattle.tool_words.specs.declared.command.Command.{Command}
-use Rattle.tool_words.specs.declared.command.Command.TheVariants.{Avail, Decode, Encode, EventChooser, NativeAvail, Profil, Regions, Run, Soak}
-use Rattle.tool_words.specs.declared.chooser.EventKind.{EventKind}
-use Rattle.tool_words.specs.declared.chooser.EventKind.TheVariants.{Native, Preset}
-use Rattle.tool_words.specs.Arguments.{rule}
-use Rattle.tool_words.specs.AvailForm.{avail_form}
-use Rattle.tool_words.specs.ChooserForm.{chooser_form}
-use Rattle.tool_words.specs.EncodeForm.{encode_form}
-use Rattle.tool_words.specs.Form.{form}
-use Rattle.tool_words.specs.declared.presets.PresetWords.{PresetWords}
-use Rattle.tool_words.specs.DecodeForm.{decode_form}
-use Rattle.tool_words.specs.NativeAvailForm.{native_avail_form}
-use Rattle.tool_words.specs.Presets.{is_cpu}
-use Rattle.tool_words.specs.ProfilForm.{profil_form}
-use Rattle.tool_words.specs.EventList.{parts_of}
-use Rattle.tool_words.specs.RegionsForm.{regions_form}
-use Rattle.tool_words.specs.RunForm.{run_form}
-use Rattle.tool_words.specs.ScriptForm.{script_words_in}
-use Rattle.tool_words.specs.SoakForm.{soak_form}
-use Rattle.tool_words.specs.Words.{read_by}
 
 unfoldable on_words : Unit {0}
 unfolding clap_on_literals read_by rule is_cpu script_words_in run_form encode_form decode_form avail_form native_avail_form chooser_form soak_form profil_form regions_form parts_of

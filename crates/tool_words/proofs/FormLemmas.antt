@@ -1,13 +1,9 @@
 -- How what words ask for follows from their matches, for any command.
-use Rattle.std.proofs.Common.{◌≡◌, ◌⊎◌, inl, inr, Bool, true, false, List, [], ◌∷◌, Option, None, Result, Err, refl, subst}
+use Rattle.tool_words.proofs.Words.{◌≡◌, ◌⊎◌, inl, inr, Bool, true, false, List, [], ◌∷◌, Option, None, Result, Err, refl, subst, IsAmong, Kinds, App}
+use Rattle.tool_words.proofs.Words.{Row, Text, fault_of, is_simple, is_simple_and_free, matches_of, ErrorKind, WordsFault, BadWords, Memory, Answers}
+use Rattle.tool_words.proofs.Words.{AreMatches, HasSomeKind, ToolForm, app_by, fault_by, read_by, unless_refused}
 use Rattle.std.specs.Prelude.{◌&&◌}
-use Rattle.clap.specs.Kinds.{IsAmong, Kinds}
-use Rattle.clap.specs.Words.{App, Row, Text, fault_of, is_simple, is_simple_and_free, matches_of}
-use Rattle.clap.specs.declared.error.kind.ErrorKind.{ErrorKind}
 use Rattle.clap.specs.declared.error.kind.ErrorKind.TheVariants as kind
-use Rattle.tool_words.specs.declared.fault.WordsFault.{WordsFault}
-use Rattle.tool_words.specs.declared.fault.WordsFault.TheVariants.{BadWords, Memory}
-use Rattle.tool_words.specs.Words.{Answers, AreMatches, HasSomeKind, ToolForm, app_by, fault_by, read_by, unless_refused}
 
 -- a kind of refusal is among those that there are
 pub some_kind : (k : ErrorKind) (kinds : Kinds) → IsAmong k kinds → HasSomeKind kinds

@@ -3,3 +3,4 @@ pub mod EventListLemmas
 pub mod FormLemmas
 pub mod NumberLemmas
 pub mod Examples
+pub mod Words

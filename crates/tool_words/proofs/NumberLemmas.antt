@@ -1,13 +1,7 @@
 -- What an unsigned type reads of a text is the number of its digits.
-use Rattle.std.proofs.Common.{◌≡◌, ◌^◌, ◌&&◌, ℕ, Bool, true, false, List, [], ◌∷◌, length, Option, Some, None, Result, Ok, Err, refl, lt-ltb, ltb-true, nat_lt}
-use Rattle.std.specs.Char.{digit_value}
-use Rattle.std.specs.List.{list_all}
-use Rattle.std.specs.Str.Parse.{AllDigits, ParsesUnsigned, digits_value, without_leading_plus}
-use Rattle.clap.proofs.WalkLemmas.{both}
-use Rattle.clap.specs.Matches.{ReadsOne}
-use Rattle.clap.specs.ValueTests.{is_numeral}
-use Rattle.clap.specs.Words.{Text}
-use Rattle.tool_words.specs.Numbers.{unsigned_of}
+use Rattle.tool_words.proofs.Words.{◌≡◌, ◌^◌, ◌&&◌, ℕ, Bool, true, false, List, [], ◌∷◌, length, Option, Some, None, Result, Ok, Err, refl, lt-ltb}
+use Rattle.tool_words.proofs.Words.{ltb-true, nat_lt, digit_value, list_all, AllDigits, ParsesUnsigned, digits_value, without_leading_plus, both}
+use Rattle.tool_words.proofs.Words.{ReadsOne, is_numeral, Text, unsigned_of}
 
 digits_pass : (ds : List ℕ) → AllDigits 10 ds → list_all (λ d. nat_lt (digit_value d) 10) ds ≡ true
 digits_pass [] h = refl

@@ -1,22 +1,10 @@
 -- The entry of a formula in infix order, by the laws of its grammar.
-use Rattle.std.proofs.Common.{◌≡◌, ◌+◌, ◌-◌, ℕ, false, List, length, refl, ap, sym, ◌∙◌, arith, Option, Some, None}
+use Rattle.user_events.proofs.Words.{◌≡◌, ◌+◌, ◌-◌, ℕ, false, List, length, refl, ap, sym, ◌∙◌, arith, Option, Some, None, Text, FormulaView}
+use Rattle.user_events.proofs.Words.{IsInfixFault, FirstInfixFaults, FromOneInfix, SameTree, infix_of, infix_parts, RefusedFormula, FormulaCause}
+use Rattle.user_events.proofs.Words.{def_entry, formula_entry, Entry, PresetCause, BadFormula, has_rate, infix_entry, EntriesAreByGrammar}
 use Rattle.std.specs.Prelude.{Result, Ok, Err}
-use Rattle.table_rows.specs.Texts.{Text}
-use Rattle.postfix_rules.specs.Faults.{FormulaView}
-use Rattle.postfix_rules.specs.InfixFaults.{IsInfixFault}
-use Rattle.postfix_rules.specs.InfixLaws.{FirstInfixFaults, FromOneInfix, SameTree}
-use Rattle.postfix_rules.specs.InfixReading.{infix_of}
-use Rattle.postfix_rules.specs.InfixTokens.{infix_parts}
-use Rattle.postfix_rules.specs.Reading.{RefusedFormula}
-use Rattle.postfix_rules.specs.declared.fault.FormulaCause.{FormulaCause}
-use Rattle.preset_csv.specs.Entries.{def_entry, formula_entry}
-use Rattle.preset_csv.specs.declared.entry.Entry.{Entry}
 use Rattle.preset_csv.specs.declared.entry.Entry.TheVariants as entry
-use Rattle.preset_csv.specs.declared.fault.PresetCause.{PresetCause}
-use Rattle.preset_csv.specs.declared.fault.PresetCause.TheVariants.{BadFormula}
 use Rattle.preset_csv.specs.declared.kind.Kind.TheVariants as kind
-use Rattle.user_events.specs.Entries.{has_rate, infix_entry}
-use Rattle.user_events.specs.Grammar.{EntriesAreByGrammar}
 
 -- the formula that an entry has, if it has one
 abbrev formula_in : Result Entry PresetCause → Option FormulaView

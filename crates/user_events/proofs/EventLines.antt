@@ -1,29 +1,13 @@
 -- The rows of a written table, each by its kind.
 use Rattle.std.proofs.Common.{◌≡◌, ◌∙◌, ◌∷◌, ◌++◌, ℕ, true, List, [], map, refl, sym, ap, ap₂, arith, tests, codes, length}
-use Rattle.std.specs.Prelude.{nat_le}
-use Rattle.std.specs.List.{AllByRecursion, list_all}
-use Rattle.std.proofs.lemmas.Bool.{and_parts}
-use Rattle.std.proofs.lemmas.List.{map-append}
-use Rattle.table_rows.specs.Rows.{IsPlainRow, rows_of}
-use Rattle.table_rows.specs.Texts.{Text, text_at}
-use Rattle.table_rows.proofs.RowsBack.{rows-back}
-use Rattle.table_rows.proofs.Texts.{all-append, all-map}
-use Rattle.preset_csv.specs.Defs.{DefView, IsDef}
+use Rattle.user_events.proofs.Words.{nat_le, AllByRecursion, list_all, and_parts, map-append, IsPlainRow, rows_of, Text, text_at, rows-back}
+use Rattle.user_events.proofs.Words.{all-append, all-map, DefView, IsDef, Derivation, Line, cpu, derivation_of, event, gives, preset, IsEntry}
+use Rattle.user_events.proofs.Words.{symbols, def_fields, rows_of_entries, table_text, Entry, both, rows-lines, rows-plain, rows_back, IsGood, IsInk}
+use Rattle.user_events.proofs.Words.{ink-good, symbols-good, word-good, cpu-line, def-good, def-line, def_row, first-good, good-plain, preset-line}
+use Rattle.user_events.proofs.Words.{rest-good, rest-line, rest_row, all-test, rows-append, EventView, ExtendedView, IsEvent, IsPresent, line_of}
+use Rattle.user_events.proofs.Words.{lines_of, is_event_byte, is_event_name, event_rows, extended_text, named_rows}
 use Rattle.preset_csv.specs.Lines as Presets
-use Rattle.preset_csv.specs.Lines.{Derivation, Line, cpu, derivation_of, event, gives, preset}
-use Rattle.preset_csv.specs.Tables.{IsEntry, symbols}
-use Rattle.preset_csv.specs.Written.{def_fields, rows_of_entries, table_text}
-use Rattle.preset_csv.specs.declared.entry.Entry.{Entry}
 use Rattle.preset_csv.specs.declared.entry.Entry.TheVariants as entry
-use Rattle.preset_csv.proofs.Back.{both, rows-lines, rows-plain, rows_back}
-use Rattle.preset_csv.proofs.Fields.{IsGood, IsInk, ink-good, symbols-good, word-good}
-use Rattle.preset_csv.proofs.RowBack.{cpu-line, def-good, def-line, def_row, first-good, good-plain, preset-line, rest-good, rest-line, rest_row}
-use Rattle.preset_csv.proofs.SymbolRows.{all-test}
-use Rattle.preset_csv.proofs.WrittenParts.{rows-append}
-use Rattle.user_events.specs.Events.{EventView, ExtendedView, IsEvent, IsPresent}
-use Rattle.user_events.specs.Lines.{line_of, lines_of}
-use Rattle.user_events.specs.Names.{is_event_byte, is_event_name}
-use Rattle.user_events.specs.Written.{event_rows, extended_text, named_rows}
 
 -- ---- the name of a user event stands in a field
 

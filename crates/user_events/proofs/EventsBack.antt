@@ -1,27 +1,12 @@
 -- A written table's rows are read, and give its entries.
-use Rattle.std.proofs.Common.{◌≡◌, ◌∙◌, ◌+◌, ◌<◌, ◌≤◌, ◌∷◌, ◌++◌, ℕ, Bool, true, false, not, List, [], length, map, fold, refl, sym, ap, subst}
+use Rattle.user_events.proofs.Words.{◌≡◌, ◌∙◌, ◌+◌, ◌<◌, ◌≤◌, ◌∷◌, ◌++◌, ℕ, Bool, true, false, not, List, [], length, map, fold, refl, sym, ap, subst}
+use Rattle.user_events.proofs.Words.{◌&&◌, AllByRecursion, bytes_eq, length-append, map-append, cond_both, or_parts, Text, Derivation, Line, event}
+use Rattle.user_events.proofs.Words.{gives, preset, read_from, IsEntry, Entry, HasEntry, Stands, all-held, both, no-cause, stands-more, read-more}
+use Rattle.user_events.proofs.Words.{def-judged, rest-judged, event_judged, infix_entry, Distinct, EventView, IsEvent, IsPresent, names_of}
+use Rattle.user_events.proofs.Words.{is_event_name, first_fault, among, event_read, events_of, events_read, line_cause, name_added, named_entry}
+use Rattle.user_events.proofs.Words.{names_in, put_event, MOST_USER_EVENTS}
 use Rattle.std.proofs.Common.{arith, tests, append_assoc, append-nil, None, Ok, nat_le}
-use Rattle.std.specs.Prelude.{◌&&◌}
-use Rattle.std.specs.List.{AllByRecursion}
-use Rattle.std.specs.Str.{bytes_eq}
-use Rattle.std.proofs.lemmas.List.{length-append, map-append}
-use Rattle.std.proofs.lemmas.Bool.{cond_both, or_parts}
-use Rattle.table_rows.specs.Texts.{Text}
-use Rattle.preset_csv.specs.Lines.{Derivation, Line, event, gives, preset}
-use Rattle.preset_csv.specs.Presets.{read_from}
-use Rattle.preset_csv.specs.Tables.{IsEntry}
-use Rattle.preset_csv.specs.declared.entry.Entry.{Entry}
 use Rattle.preset_csv.specs.declared.entry.Entry.TheVariants as entry
-use Rattle.preset_csv.proofs.Back.{HasEntry, Stands, all-held, both, no-cause, stands-more}
-use Rattle.preset_csv.proofs.OneMore.{read-more}
-use Rattle.preset_csv.proofs.RowBack.{def-judged, rest-judged}
-use Rattle.user_events.specs.Entries.{event_judged, infix_entry}
-use Rattle.user_events.specs.Events.{Distinct, EventView, IsEvent, IsPresent, names_of}
-use Rattle.user_events.specs.Names.{is_event_name}
-use Rattle.table_rows.specs.Tables.{first_fault}
-use Rattle.user_events.specs.Rows.{among, event_read, events_of, events_read, line_cause, name_added, named_entry, names_in}
-use Rattle.user_events.specs.Steps.{put_event}
-use Rattle.user_events.specs.declared.event.TheConstants.{MOST_USER_EVENTS}
 use Rattle.user_events.proofs.EventLines.{event_row, row_back}
 use Rattle.user_events.proofs.MoreRows.{put-more, same-order}
 use Rattle.user_events.proofs.Putting.{put-last}

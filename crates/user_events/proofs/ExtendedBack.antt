@@ -1,25 +1,10 @@
 -- A written table reads back, also if the cpu's name can stand in no field: then no row is written, and none is read.
-use Rattle.std.proofs.Common.{◌≡◌, ◌∙◌, ◌+◌, ◌≤◌, ◌∷◌, ◌++◌, Bool, true, false, List, [], length, map, refl, sym, ap, ap₂, arith, None}
-use Rattle.std.proofs.lemmas.List.{length-map}
-use Rattle.table_rows.specs.Rows.{rows_text}
-use Rattle.table_rows.specs.Tables.{first_fault}
-use Rattle.table_rows.specs.Texts.{Text}
-use Rattle.preset_csv.specs.Lines.{Derivation, Line, cpu, event, gives, preset}
-use Rattle.preset_csv.specs.Presets.{presets, read_from}
-use Rattle.preset_csv.specs.Tables.{is_field, symbols}
-use Rattle.preset_csv.specs.Written.{rows_of_entries, table_text}
-use Rattle.preset_csv.specs.declared.entry.Entry.{Entry}
-use Rattle.preset_csv.proofs.Back.{both, first-stands, presets-back, rows_back, table-taken, written-back}
-use Rattle.preset_csv.proofs.BackWhole.{Says, Spares, bad-faultless, no-entries}
-use Rattle.preset_csv.proofs.Fields.{field-good}
-use Rattle.preset_csv.proofs.RowBack.{cpu-begins}
-use Rattle.preset_csv.proofs.TableKept.{lines-plain}
-use Rattle.user_events.specs.Entries.{event_judged, infix_entry}
-use Rattle.user_events.specs.Events.{EventView, ExtendedView, IsExtended}
-use Rattle.user_events.specs.Lines.{line_of, lines_of}
-use Rattle.user_events.specs.Rows.{event_read, events_of, events_read, extended_fault, extended_in, line_cause}
-use Rattle.user_events.specs.Written.{ReadsBack, event_rows, extended_text}
-use Rattle.user_events.specs.declared.event.TheConstants.{MOST_USER_EVENTS}
+use Rattle.user_events.proofs.Words.{◌≡◌, ◌∙◌, ◌+◌, ◌≤◌, ◌∷◌, ◌++◌, Bool, true, false, List, [], length, map, refl, sym, ap, ap₂, arith, None}
+use Rattle.user_events.proofs.Words.{length-map, rows_text, first_fault, Text, Derivation, Line, cpu, event, gives, preset, presets, read_from}
+use Rattle.user_events.proofs.Words.{is_field, symbols, rows_of_entries, table_text, Entry, both, first-stands, presets-back, rows_back, table-taken}
+use Rattle.user_events.proofs.Words.{written-back, Says, Spares, bad-faultless, no-entries, field-good, cpu-begins, lines-plain, event_judged}
+use Rattle.user_events.proofs.Words.{infix_entry, EventView, ExtendedView, IsExtended, line_of, lines_of, event_read, events_of, events_read}
+use Rattle.user_events.proofs.Words.{extended_fault, extended_in, line_cause, ReadsBack, event_rows, extended_text, MOST_USER_EVENTS}
 use Rattle.user_events.proofs.EventLines.{event_row, plain-cpu, written-lines}
 use Rattle.user_events.proofs.EventsBack.{events-are, events-back, named, no-fault}
 use Rattle.user_events.proofs.Taking.{event-line-kept, no-events}

@@ -1,23 +1,12 @@
 -- No row gives a missing entry.
-use Rattle.std.proofs.Common.{List, length, Option, Some, None, Result, Ok, Err}
-use Rattle.std.proofs.lemmas.Bool.{cond_both}
-use Rattle.std.specs.Prelude.{⊤, ◌==◌}
-use Rattle.table_rows.specs.Texts.{Text, is_empty, is_printable}
-use Rattle.postfix_rules.specs.Faults.{FormulaView}
-use Rattle.postfix_rules.specs.InfixReading.{infix_of}
-use Rattle.postfix_rules.specs.Reading.{RefusedFormula, formula_of}
-use Rattle.preset_csv.specs.Entries.{def_entry, formula_entry, judged_as, judged_by, kept_entry, kept_natives, typed_entry}
+use Rattle.user_events.proofs.Words.{List, length, Option, Some, None, Result, Ok, Err, cond_both, ⊤, ◌==◌, Text, is_empty, is_printable, FormulaView}
+use Rattle.user_events.proofs.Words.{infix_of, RefusedFormula, formula_of, def_entry, formula_entry, judged_as, judged_by, kept_entry, kept_natives}
+use Rattle.user_events.proofs.Words.{typed_entry, Derivation, Entry, PresetCause, DerivedType, event_judged, has_rate, infix_entry, IsPresent}
 use Rattle.preset_csv.specs.Entries as Presets
-use Rattle.preset_csv.specs.Lines.{Derivation}
-use Rattle.preset_csv.specs.declared.entry.Entry.{Entry}
 use Rattle.preset_csv.specs.declared.entry.Entry.TheVariants as entry
-use Rattle.preset_csv.specs.declared.fault.PresetCause.{PresetCause}
 use Rattle.preset_csv.specs.declared.fault.PresetCause.TheVariants as cause
-use Rattle.preset_csv.specs.declared.kind.DerivedType.{DerivedType}
 use Rattle.preset_csv.specs.declared.kind.DerivedType.TheVariants as derived
 use Rattle.preset_csv.specs.declared.kind.Kind.TheVariants as kind
-use Rattle.user_events.specs.Entries.{event_judged, has_rate, infix_entry}
-use Rattle.user_events.specs.Events.{IsPresent}
 
 abbrev pub Gives : Result Entry PresetCause → Type 0
 Gives (Ok e) = IsPresent e

@@ -1,21 +1,12 @@
 -- The entry of a formula in infix order can stand in a table.
-use Rattle.std.proofs.Common.{◌≡◌, ◌+◌, ◌∷◌, ℕ, Bool, true, false, List, [], Option, Some, None, length, map, refl, sym, subst}
+use Rattle.user_events.proofs.Words.{◌≡◌, ◌+◌, ◌∷◌, ℕ, Bool, true, false, List, [], Option, Some, None, length, map, refl, sym, subst, option_map_or}
+use Rattle.user_events.proofs.Words.{cond_both, Text, FormulaCause, FormulaView, IsFormula, fault_from, OrderView, ended_tokens, infix_end}
+use Rattle.user_events.proofs.Words.{infix_ended, infix_of, moved_by, order_begun, order_cause, refused_at, InfixPart, infix_parts, RefusedFormula}
+use Rattle.user_events.proofs.Words.{FitsKind, formula_entry, InfixKept, Keeps, formula-kept, has_rate, infix_entry}
 use Rattle.std.specs.Prelude.{Ok, Err, Result, is_some, if◌then◌else◌, nat_lt, ⊤}
-use Rattle.std.specs.Option.{option_map_or}
-use Rattle.std.proofs.lemmas.Bool.{cond_both}
-use Rattle.table_rows.specs.Texts.{Text}
-use Rattle.postfix_rules.specs.declared.fault.FormulaCause.{FormulaCause}
 use Rattle.postfix_rules.specs.declared.fault.FormulaCause.TheVariants as cause
-use Rattle.postfix_rules.specs.Faults.{FormulaView, IsFormula, fault_from}
-use Rattle.postfix_rules.specs.InfixReading.{OrderView, ended_tokens, infix_end, infix_ended, infix_of, moved_by, order_begun, order_cause, refused_at}
-use Rattle.postfix_rules.specs.InfixTokens.{InfixPart, infix_parts}
-use Rattle.postfix_rules.specs.Reading.{RefusedFormula}
-use Rattle.preset_csv.specs.Defs.{FitsKind}
-use Rattle.preset_csv.specs.Entries.{formula_entry}
 use Rattle.preset_csv.specs.declared.entry.Entry.TheVariants as entry
 use Rattle.preset_csv.specs.declared.kind.Kind.TheVariants as kind
-use Rattle.preset_csv.proofs.Judged.{InfixKept, Keeps, formula-kept}
-use Rattle.user_events.specs.Entries.{has_rate, infix_entry}
 
 abbrev IsOne : ℕ → Result FormulaView RefusedFormula → Type 0
 IsOne natives (Ok f) = (f.natives ≡ natives) × IsFormula natives f.tokens

@@ -10,3 +10,4 @@ pub mod EventLines
 pub mod EventsBack
 pub mod ExtendedBack
 pub mod ByGrammar
+pub mod Words

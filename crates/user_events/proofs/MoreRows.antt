@@ -1,27 +1,11 @@
 -- The user events of some rows and of one row more.
-use Rattle.std.proofs.Common.{◌≡◌, ◌∙◌, ◌∷◌, ◌++◌, Bool, true, false, List, [], map, fold, refl, sym, ap, ap₂, subst, append-nil, None, Result, Ok, Err}
-use Rattle.std.specs.Prelude.{◌||◌, if◌then◌else◌}
-use Rattle.std.specs.Bool.{Decides}
-use Rattle.std.specs.List.{AllByRecursion, list_any}
-use Rattle.std.specs.Str.{bytes_eq}
-use Rattle.std.proofs.lemmas.List.Sums.{fold-append}
-use Rattle.std.proofs.lemmas.Slice.Eq.{bytes_eq-Decides}
-use Rattle.std.proofs.lemmas.Bool.{cond_both}
-use Rattle.table_rows.specs.Texts.{Text}
-use Rattle.table_rows.proofs.Texts.{no_two-more}
-use Rattle.preset_csv.specs.Lines.{Derivation, Line, event, gives}
-use Rattle.preset_csv.specs.Presets.{cause_if, entry_of, entry_or, holds, rows_if}
-use Rattle.preset_csv.specs.Steps.{group_at}
-use Rattle.preset_csv.specs.declared.entry.Entry.{Entry}
-use Rattle.preset_csv.specs.declared.fault.PresetCause.{PresetCause}
+use Rattle.user_events.proofs.Words.{◌≡◌, ◌∙◌, ◌∷◌, ◌++◌, Bool, true, false, List, [], map, fold, refl, sym, ap, ap₂, subst, append-nil, None, Result}
+use Rattle.user_events.proofs.Words.{Ok, Err, ◌||◌, if◌then◌else◌, Decides, AllByRecursion, list_any, bytes_eq, fold-append, bytes_eq-Decides}
+use Rattle.user_events.proofs.Words.{cond_both, Text, no_two-more, Derivation, Line, event, gives, cause_if, entry_of, entry_or, holds, rows_if}
+use Rattle.user_events.proofs.Words.{group_at, Entry, PresetCause, entry-append, map-same, read-more, same-text, turned, event_judged, Distinct}
+use Rattle.user_events.proofs.Words.{EventView, names_of, is_event_name, among, event_of, event_read, events_of, events_read, is_too_many, limited}
+use Rattle.user_events.proofs.Words.{name_added, named_entry, names_in, events_more, events_with, put_event, put_judged}
 use Rattle.preset_csv.specs.declared.fault.PresetCause.TheVariants as cause
-use Rattle.preset_csv.proofs.OneMore.{entry-append, map-same, read-more}
-use Rattle.preset_csv.proofs.SymbolRows.{same-text, turned}
-use Rattle.user_events.specs.Entries.{event_judged}
-use Rattle.user_events.specs.Events.{Distinct, EventView, names_of}
-use Rattle.user_events.specs.Names.{is_event_name}
-use Rattle.user_events.specs.Rows.{among, event_of, event_read, events_of, events_read, is_too_many, limited, name_added, named_entry, names_in}
-use Rattle.user_events.specs.Steps.{events_more, events_with, put_event, put_judged}
 
 -- ---- the names of the user events differ
 

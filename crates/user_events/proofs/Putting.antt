@@ -1,18 +1,9 @@
 -- The entry of a name is put at its place.
-use Rattle.std.proofs.Common.{◌≡◌, ◌∙◌, ◌+◌, ◌<◌, ◌≤◌, ◌∷◌, ◌++◌, ℕ, zero, suc, Bool, true, false, cond, List, [], Option, Some, None, map, set, length, get_or, refl, sym, ap, arith}
+use Rattle.user_events.proofs.Words.{◌≡◌, ◌∙◌, ◌+◌, ◌<◌, ◌≤◌, ◌∷◌, ◌++◌, ℕ, zero, suc, Bool, true, false, cond, List, [], Option, Some, None, map}
+use Rattle.user_events.proofs.Words.{set, length, get_or, refl, sym, ap, arith, position_or_len, bytes_eq, cond_both, ltb-false, or_parts, or_right}
+use Rattle.user_events.proofs.Words.{length-map, map-append, position-Some, Text, Entry, EventView, event_view, names_of, among, put_event, UserEvent}
 use Rattle.std.specs.Prelude.{not, nat_lt, position}
-use Rattle.std.specs.List.{position_or_len}
-use Rattle.std.specs.Str.{bytes_eq}
-use Rattle.std.proofs.lemmas.Bool.{cond_both, ltb-false, or_parts, or_right}
-use Rattle.std.proofs.lemmas.List.{length-map, map-append}
-use Rattle.std.proofs.lemmas.List.Quantifiers.{position-Some}
-use Rattle.table_rows.specs.Texts.{Text}
-use Rattle.preset_csv.specs.declared.entry.Entry.{Entry}
 use Rattle.preset_csv.specs.declared.entry.Entry.TheVariants as entry
-use Rattle.user_events.specs.Events.{EventView, event_view, names_of}
-use Rattle.user_events.specs.Rows.{among}
-use Rattle.user_events.specs.Steps.{put_event}
-use Rattle.user_events.specs.declared.event.UserEvent.{UserEvent}
 
 abbrev pub is_named : Text → EventView → Bool
 is_named name x = bytes_eq name x.name

@@ -1,30 +1,16 @@
 -- A file without EVENT rows and formulas in infix order is read as one of presets alone.
-use Rattle.std.proofs.Common.{◌≡◌, ◌∙◌, ◌+◌, ◌∷◌, ◌++◌, ℕ, not, List, [], map, fold, length, refl, ap, ap₂, Option, Some, None, Result, Ok, Err}
-use Rattle.std.specs.Prelude.{if◌then◌else◌, codes}
-use Rattle.std.proofs.lemmas.Bool.{cond_both}
-use Rattle.std.specs.List.{AllByRecursion}
-use Rattle.std.specs.Option.{option_map_or}
-use Rattle.std.specs.Str.{bytes_eq, str_eq_ignore_ascii_case}
-use Rattle.table_rows.specs.Rows.{rows_of}
-use Rattle.table_rows.specs.Texts.{Text, is_empty, is_printable, text_at}
-use Rattle.table_rows.proofs.Texts.{all-append}
-use Rattle.preset_csv.specs.Entries.{judged, judged_as, judged_by, kept_entry, kept_natives, typed_entry, uncomputed}
+use Rattle.user_events.proofs.Words.{◌≡◌, ◌∙◌, ◌+◌, ◌∷◌, ◌++◌, ℕ, not, List, [], map, fold, length, refl, ap, ap₂, Option, Some, None, Result, Ok}
+use Rattle.user_events.proofs.Words.{Err, if◌then◌else◌, codes, cond_both, AllByRecursion, option_map_or, bytes_eq, str_eq_ignore_ascii_case, rows_of}
+use Rattle.user_events.proofs.Words.{Text, is_empty, is_printable, text_at, all-append, judged, judged_as, judged_by, kept_entry, kept_natives}
+use Rattle.user_events.proofs.Words.{typed_entry, uncomputed, Derivation, Line, cpu, derivation_of, event, gives, other, preset, cause_if, entry_of}
+use Rattle.user_events.proofs.Words.{entry_or, has_cpu, is_read, preset_fault, preset_read, presets, presets_in, presets_read, read_from, rows_if}
+use Rattle.user_events.proofs.Words.{symbols, Entry, PresetCause, DerivedType, IsOfPresets, IsOrdinary, ReadsAsPresets, event_judged, infix_entry}
+use Rattle.user_events.proofs.Words.{line_of, lines_of, first_fault, event_read, events_of, extended_fault, extended_in, line_cause, names_in}
 use Rattle.preset_csv.specs.Lines as Presets
-use Rattle.preset_csv.specs.Lines.{Derivation, Line, cpu, derivation_of, event, gives, other, preset}
 use Rattle.preset_csv.specs.Presets as Of
-use Rattle.preset_csv.specs.Presets.{cause_if, entry_of, entry_or, has_cpu, is_read, preset_fault, preset_read, presets, presets_in, presets_read, read_from, rows_if}
-use Rattle.preset_csv.specs.Tables.{symbols}
-use Rattle.preset_csv.specs.declared.entry.Entry.{Entry}
 use Rattle.preset_csv.specs.declared.entry.Entry.TheVariants as entry
-use Rattle.preset_csv.specs.declared.fault.PresetCause.{PresetCause}
 use Rattle.preset_csv.specs.declared.fault.PresetCause.TheVariants as cause
-use Rattle.preset_csv.specs.declared.kind.DerivedType.{DerivedType}
 use Rattle.preset_csv.specs.declared.kind.DerivedType.TheVariants as derived
-use Rattle.user_events.specs.Alike.{IsOfPresets, IsOrdinary, ReadsAsPresets}
-use Rattle.user_events.specs.Entries.{event_judged, infix_entry}
-use Rattle.user_events.specs.Lines.{line_of, lines_of}
-use Rattle.table_rows.specs.Tables.{first_fault}
-use Rattle.user_events.specs.Rows.{event_read, events_of, extended_fault, extended_in, line_cause, names_in}
 
 same-typed : (t : DerivedType) (formula : Text) (natives : List Text) → (Some t ≡ Some derived.Infix → ⊥) → typed_entry infix_entry t formula natives ≡ typed_entry uncomputed t formula natives
 same-typed derived.Infix formula natives h = absurd (h refl)

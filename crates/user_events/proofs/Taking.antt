@@ -1,41 +1,21 @@
 -- The presets and user events of some rows and of one row more, and what is kept.
-use Rattle.std.proofs.Common.{◌≡◌, ◌∙◌, ◌+◌, ◌<◌, ◌≤◌, ◌∷◌, ◌++◌, ℕ, List, [], Some, None, true, false, Bool, not, length}
+use Rattle.user_events.proofs.Words.{◌≡◌, ◌∙◌, ◌+◌, ◌<◌, ◌≤◌, ◌∷◌, ◌++◌, ℕ, List, [], Some, None, true, false, Bool, not, length, ◌&&◌, if◌then◌else◌}
+use Rattle.user_events.proofs.Words.{codes, AllByRecursion, bytes_eq, str_eq_ignore_ascii_case, cond_both, length-map, IsReadRow, TakesRow, Text}
+use Rattle.user_events.proofs.Words.{text_at, RowRefusal, takes-as, Derivation, Line, cpu, derivation_of, event, gives, cause_if, has_cpu, holds}
+use Rattle.user_events.proofs.Words.{presets, read_from, group_at, IsEntry, IsTable, is_field, Entry, PresetCause, Group, Keeps, judged-kept}
+use Rattle.user_events.proofs.Words.{event_judged, infix_entry, Distinct, EventView, IsEvent, IsExtended, IsPresent, names_of, line_of, lines_of}
+use Rattle.user_events.proofs.Words.{is_event_name, GivePresetsAndEvents, IsKept, among, event_read, events_of, events_read, extended_in, is_too_many}
+use Rattle.user_events.proofs.Words.{line_cause, named_entry, names_in, IsMore, Taking, cause_more, events_more, events_with, put_event, put_judged}
+use Rattle.user_events.proofs.Words.{MOST_USER_EVENTS, PRESETS}
 use Rattle.std.proofs.Common.{replicate, refl, sym, ap, subst, arith, tests, Option, Result, nat_le}
-use Rattle.std.specs.Prelude.{◌&&◌, if◌then◌else◌, codes}
-use Rattle.std.specs.List.{AllByRecursion}
-use Rattle.std.specs.Str.{bytes_eq, str_eq_ignore_ascii_case}
-use Rattle.std.proofs.lemmas.Bool.{cond_both}
-use Rattle.std.proofs.lemmas.List.{length-map}
-use Rattle.table_rows.specs.Rows.{IsReadRow}
-use Rattle.table_rows.specs.Tables.{TakesRow}
-use Rattle.table_rows.specs.Texts.{Text, text_at}
-use Rattle.table_rows.specs.declared.fault.RowRefusal.{RowRefusal}
-use Rattle.table_rows.proofs.TablesRead.{takes-as}
 use Rattle.preset_csv.specs.Lines as Presets
-use Rattle.preset_csv.specs.Lines.{Derivation, Line, cpu, derivation_of, event, gives}
-use Rattle.preset_csv.specs.Presets.{cause_if, has_cpu, holds, presets, read_from}
-use Rattle.preset_csv.specs.Steps.{group_at}
-use Rattle.preset_csv.specs.Tables.{IsEntry, IsTable, is_field}
-use Rattle.preset_csv.specs.declared.entry.Entry.{Entry}
 use Rattle.preset_csv.specs.declared.entry.Entry.TheVariants as entry
-use Rattle.preset_csv.specs.declared.fault.PresetCause.{PresetCause}
 use Rattle.preset_csv.specs.declared.fault.PresetCause.TheVariants as cause
-use Rattle.preset_csv.specs.declared.group.Group.{Group}
-use Rattle.preset_csv.proofs.Judged.{Keeps, judged-kept}
 use Rattle.preset_csv.proofs.TableKept.{IsKept as IsRowKept, IsLine, derivation-kept, line-kept, lines-plain, none-read, presets-kept}
 use Rattle.preset_csv.proofs.RowsTaken as PresetRows
-use Rattle.user_events.specs.Entries.{event_judged, infix_entry}
-use Rattle.user_events.specs.Events.{Distinct, EventView, IsEvent, IsExtended, IsPresent, names_of}
-use Rattle.user_events.specs.Lines.{line_of, lines_of}
-use Rattle.user_events.specs.Names.{is_event_name}
-use Rattle.user_events.specs.Reading.{GivePresetsAndEvents, IsKept}
-use Rattle.user_events.specs.Rows.{among, event_read, events_of, events_read, extended_in, is_too_many, line_cause, named_entry, names_in}
-use Rattle.user_events.specs.Steps.{IsMore, Taking, cause_more, events_more, events_with, put_event, put_judged}
-use Rattle.user_events.specs.declared.event.TheConstants.{MOST_USER_EVENTS}
 use Rattle.user_events.proofs.Giving.{Gives, event-gives}
 use Rattle.user_events.proofs.InfixKept.{infix-kept}
 use Rattle.user_events.proofs.MoreRows.{events-more, events_more_cause, named-ok, names-are, names-distinct, no-cause}
-use Rattle.preset_csv.specs.declared.symbols.TheConstants.{PRESETS}
 
 -- ---- a row by itself
 

@@ -1,27 +1,12 @@
 -- What one row gives is taken, or the row refused.
-use Rattle.std.proofs.Common.{◌≡◌, ◌∙◌, ◌∷◌, ℕ, Bool, true, false, not, List, [], Option, Some, None, map, length, refl, sym, ap, subst, arith, tests}
+use Rattle.user_events.proofs.Words.{◌≡◌, ◌∙◌, ◌∷◌, ℕ, Bool, true, false, not, List, [], Option, Some, None, map, length, refl, sym, ap, subst, arith}
+use Rattle.user_events.proofs.Words.{tests, list_all, and_from, and_parts, length-map, RefusesRow, Text, is_printable, is_printable_byte, text_at}
+use Rattle.user_events.proofs.Words.{derivation_of, Judges, Entry, PresetCause, RowRefusal, symbol-there, event_judged, EventView, event_view}
+use Rattle.user_events.proofs.Words.{names_of, is_event_byte, is_event_name, is_too_many, limited, named_entry, cause_if, IsOverLimit, event_cause}
+use Rattle.user_events.proofs.Words.{events_with, put_event, put_judged, MOST_USER_EVENTS, UserEvent}
 use Rattle.std.specs.Prelude.{◌&&◌, is_some, position, Ok, Err, Result, nat_le}
-use Rattle.std.specs.List.{list_all}
-use Rattle.std.proofs.lemmas.Bool.{and_from, and_parts}
-use Rattle.std.proofs.lemmas.List.{length-map}
-use Rattle.table_rows.specs.Tables.{RefusesRow}
-use Rattle.table_rows.specs.Texts.{Text, is_printable, is_printable_byte, text_at}
-use Rattle.preset_csv.specs.Lines.{derivation_of}
-use Rattle.preset_csv.specs.Steps.{Judges}
-use Rattle.preset_csv.specs.declared.entry.Entry.{Entry}
-use Rattle.preset_csv.specs.declared.fault.PresetCause.{PresetCause}
 use Rattle.preset_csv.specs.declared.fault.PresetCause.TheVariants as cause
-use Rattle.table_rows.specs.declared.fault.RowRefusal.{RowRefusal}
 use Rattle.table_rows.specs.declared.fault.RowRefusal.TheVariants as refusal
-use Rattle.preset_csv.proofs.NativesKept.{symbol-there}
-use Rattle.user_events.specs.Entries.{event_judged}
-use Rattle.user_events.specs.Events.{EventView, event_view, names_of}
-use Rattle.user_events.specs.Names.{is_event_byte, is_event_name}
-use Rattle.user_events.specs.Rows.{is_too_many, limited, named_entry}
-use Rattle.preset_csv.specs.Presets.{cause_if}
-use Rattle.user_events.specs.Steps.{IsOverLimit, event_cause, events_with, put_event, put_judged}
-use Rattle.user_events.specs.declared.event.TheConstants.{MOST_USER_EVENTS}
-use Rattle.user_events.specs.declared.event.UserEvent.{UserEvent}
 use Rattle.user_events.proofs.Putting.{is-among, is_named, not-among}
 
 -- ---- the name of an EVENT row

@@ -1,14 +1,7 @@
 -- The text of user events, row by row.
-use Rattle.std.proofs.Common.{◌≡◌, ◌∙◌, ◌+◌, ◌<◌, ◌≤◌, ◌∷◌, ◌++◌, ℕ, List, [], length, map, get_or, take, refl, sym, ap, append_assoc, append-nil}
-use Rattle.std.proofs.lemmas.List.{map-append, take_all, take_more}
-use Rattle.table_rows.specs.Rows.{rows_text}
-use Rattle.table_rows.specs.Texts.{Text}
-use Rattle.preset_csv.specs.Tables.{TableView}
-use Rattle.preset_csv.specs.Written.{table_text}
-use Rattle.preset_csv.proofs.WrittenParts.{rows-append}
-use Rattle.user_events.specs.Events.{EventView, ExtendedView, event_view}
-use Rattle.user_events.specs.Written.{event_rows, extended_text, named_rows}
-use Rattle.user_events.specs.declared.event.UserEvent.{UserEvent}
+use Rattle.user_events.proofs.Words.{◌≡◌, ◌∙◌, ◌+◌, ◌<◌, ◌≤◌, ◌∷◌, ◌++◌, ℕ, List, [], length, map, get_or, take, refl, sym, ap, append_assoc}
+use Rattle.user_events.proofs.Words.{append-nil, map-append, take_all, take_more, rows_text, Text, TableView, table_text, rows-append, EventView}
+use Rattle.user_events.proofs.Words.{ExtendedView, event_view, event_rows, extended_text, named_rows, UserEvent}
 
 -- ---- the rows of some user events
 

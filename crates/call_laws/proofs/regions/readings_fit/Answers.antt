@@ -1,8 +1,4 @@
-use Rattle.std.proofs.Common.{All, FitsSigned, List, subst}
-use Rattle.std.specs.Int.{w64}
-use Rattle.std.proofs.lemmas.List.{take_all}
-use Rattle.std.proofs.lemmas.List.Elements.{All-map}
-use Rattle.region_report.specs.declared.reports.Reading.{Reading}
+use Rattle.call_laws.proofs.Words.{All, FitsSigned, List, subst, w64, take_all, All-map, Reading}
 use Rattle.call_laws.proofs.regions.readings_fit.Goals as goal
 
 abbrev Fit : Reading → Type 0

@@ -1,5 +1,4 @@
-use Rattle.std.proofs.Common.{All, FitsSigned, take}
-use Rattle.std.specs.Int.{w64}
+use Rattle.call_laws.proofs.Words.{All, FitsSigned, take, w64}
 use Rattle.call_laws.proofs.regions.readings_fit.Given as goal
 
 abbrev pub invariant-loop-reading : goal.invariant-loop-reading

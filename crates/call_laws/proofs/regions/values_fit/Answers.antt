@@ -1,7 +1,4 @@
-use Rattle.std.proofs.Common.{All, FitsSigned, take, rules, sym, subst}
-use Rattle.std.specs.Int.{w64}
-use Rattle.std.proofs.lemmas.List.Elements.{All-push}
-use Rattle.papi_base.proofs.Steps.{take_at}
+use Rattle.call_laws.proofs.Words.{All, FitsSigned, take, rules, sym, subst, w64, All-push, take_at}
 use Rattle.call_laws.proofs.regions.values_fit.Goals as goal
 
 pub loop-i-preserved : goal.loop-i-preserved

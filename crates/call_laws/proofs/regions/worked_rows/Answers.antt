@@ -1,9 +1,5 @@
 use Rattle.std.specs.Prelude.{refl}
-use Rattle.std.specs.Fmt.{digits}
-use Rattle.std.specs.Int.{int_wrap}
-use Rattle.postfix_rules.specs.Values.{signed_sum}
-use Rattle.region_report.specs.Reports.{report_text}
-use Rattle.region_report.specs.Spans.{pairwise}
+use Rattle.call_laws.proofs.Words.{digits, int_wrap, signed_sum, report_text, pairwise}
 use Rattle.call_laws.proofs.regions.worked_rows.Goals as goal
 
 pub returns-clause-natives : goal.returns-clause-natives

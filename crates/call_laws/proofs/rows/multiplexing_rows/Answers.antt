@@ -1,9 +1,6 @@
 use Rattle.std.specs.Prelude.{refl}
-use Rattle.std.specs.Int.{int_wrap}
-use Rattle.counter_alloc.specs.BlameOf.{blame_of, deficient_sets, shortest_prefix}
-use Rattle.counter_alloc.specs.Listing.{assigns, choices, members}
-use Rattle.postfix_rules.specs.Trees.{pile_from}
-use Rattle.postfix_rules.specs.Values.{divided, signed_sum, tree_value}
+use Rattle.call_laws.proofs.Words.{int_wrap, blame_of, deficient_sets, shortest_prefix, assigns, choices, members, pile_from, divided, signed_sum}
+use Rattle.call_laws.proofs.Words.{tree_value}
 use Rattle.call_laws.proofs.rows.multiplexing_rows.Goals as goal
 
 pub returns : goal.returns

@@ -1,10 +1,7 @@
-use Rattle.std.proofs.Common.{◌∙◌, ◌∷◌, ◌++◌, [], ap, ap₂, arith, sym, map}
-use Rattle.std.proofs.lemmas.List.{length-map, length_push, map-append}
-use Rattle.component_table.specs.Books.{events_from, kept_if}
-use Rattle.user_events.specs.Events.{event_view}
+use Rattle.component_table.proofs.Words.{◌∙◌, ◌∷◌, ◌++◌, [], ap, ap₂, arith, sym, map, length-map, length_push, map-append, events_from, kept_if}
+use Rattle.component_table.proofs.Words.{event_view, PRESETS}
 use Rattle.component_table.proofs.KeptEvents.{kept-more, none}
 use Rattle.component_table.proofs.catalog.available_events.Goals as goal
-use Rattle.preset_csv.specs.declared.symbols.TheConstants.{PRESETS}
 
 pub loop-event-init : goal.loop-event-init
 loop-event-init c = record { row = c.preset_count-row.ensures.count; kept = ap (map event_view) c.new-kept.ensures.items ∙ sym (none c.args.book.now PRESETS) }

@@ -1,8 +1,7 @@
-use Rattle.std.proofs.Common.{◌∙◌, ◌<◌, sym, arith}
+use Rattle.component_table.proofs.Words.{◌∙◌, ◌<◌, sym, arith, PRESETS}
 use Rattle.component_table.proofs.Keeping.{cleared-all, cleared-kept, cleared-missing}
 use Rattle.component_table.proofs.catalog.available_presets.Goals as goal
 use Rattle.component_table.proofs.catalog.available_presets.Goals.{then-not-is_available, else-not-is_available}
-use Rattle.preset_csv.specs.declared.symbols.TheConstants.{PRESETS}
 
 pub loop-row-preserved : goal.loop-row-preserved
 loop-row-preserved c =

@@ -1,6 +1,4 @@
-use Rattle.std.proofs.Common.{rules, ◌∙◌, sym, map-id}
-use Rattle.std.proofs.lemmas.Iterator.Adapters.{YieldsList-from_vec}
-use Rattle.std.proofs.lemmas.Iterator.Consumers.{YieldsList-end}
+use Rattle.component_table.proofs.Words.{rules, ◌∙◌, sym, map-id, YieldsList-from_vec, YieldsList-end}
 use Rattle.component_table.proofs.KeptEvents.{names-out, rows-out}
 use Rattle.component_table.proofs.catalog.taken_apart.Goals as goal
 

@@ -1,7 +1,4 @@
-use Rattle.std.proofs.Common.{◌∙◌, ◌++◌, ◌∷◌, [], sym, ap₂}
-use Rattle.std.proofs.lemmas.List.{map-append}
-use Rattle.event_tables.specs.Tables.{shape_of}
-use Rattle.component_table.specs.Books.{derived_from}
+use Rattle.component_table.proofs.Words.{◌∙◌, ◌++◌, ◌∷◌, [], sym, ap₂, map-append, shape_of, derived_from}
 use Rattle.component_table.proofs.Deriving.{book-fits-more}
 use Rattle.component_table.proofs.derivation.book_of.Goals as goal
 

@@ -1,7 +1,4 @@
-use Rattle.std.proofs.Common.{◌≡◌}
-use Rattle.postfix_rules.specs.Fitting.{BookFits}
-use Rattle.event_tables.specs.Tables.{shape_of}
-use Rattle.component_table.specs.Books.{book_of}
+use Rattle.component_table.proofs.Words.{◌≡◌, BookFits, shape_of, book_of}
 use Rattle.component_table.proofs.derivation.book_of.Given as goal
 
 abbrev pub invariant-loop-entry : goal.invariant-loop-entry

@@ -1,5 +1,4 @@
-use Rattle.std.proofs.Common.{◌∙◌, Some, refl, sym, ap, ap₂}
-use Rattle.component_table.specs.Books.{natives_named, rule_of}
+use Rattle.component_table.proofs.Words.{◌∙◌, Some, refl, sym, ap, ap₂, natives_named, rule_of}
 use Rattle.component_table.proofs.Deriving.{derives, derives-none}
 use Rattle.component_table.proofs.derivation.derived_of.Goals as goal
 

@@ -1,7 +1,5 @@
-use Rattle.std.proofs.Common.{◌≡◌, ◌∙◌, ◌<◌, [], map, string_bytes, sym, ap, arith, length, get_or}
-use Rattle.std.proofs.lemmas.List.{get_or-map, length-map}
-use Rattle.event_tables.specs.Tables.{shape_of}
-use Rattle.name_encoder.specs.Names.{names}
+use Rattle.component_table.proofs.Words.{◌≡◌, ◌∙◌, ◌<◌, [], map, string_bytes, sym, ap, arith, length, get_or, get_or-map, length-map, shape_of}
+use Rattle.component_table.proofs.Words.{names}
 use Rattle.component_table.proofs.Deriving.{fit-more}
 use Rattle.component_table.proofs.Naming.{named-all, named-fault, named-more}
 use Rattle.component_table.proofs.derivation.natives_named.Goals as goal

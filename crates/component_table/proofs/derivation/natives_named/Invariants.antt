@@ -1,6 +1,4 @@
-use Rattle.std.proofs.Common.{All, map, string_bytes}
-use Rattle.postfix_rules.specs.Fitting.{Fits}
-use Rattle.event_tables.specs.Tables.{shape_of}
+use Rattle.component_table.proofs.Words.{All, map, string_bytes, Fits, shape_of}
 use Rattle.component_table.proofs.Naming.{Named}
 use Rattle.component_table.proofs.derivation.natives_named.Given as goal
 

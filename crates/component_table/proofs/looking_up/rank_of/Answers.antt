@@ -1,10 +1,5 @@
-use Rattle.std.proofs.Common.{◌∙◌, rules, tests}
+use Rattle.component_table.proofs.Words.{◌∙◌, rules, tests, bytes_eq, YieldsList-from_slice, position_from_yields_List, Text, position-map}
 use Rattle.std.specs.Prelude.{string_bytes}
-use Rattle.std.specs.Str.{bytes_eq}
-use Rattle.std.proofs.lemmas.Iterator.{YieldsList-from_slice}
-use Rattle.std.proofs.lemmas.Iterator.Search.{position_from_yields_List}
-use Rattle.table_rows.specs.Texts.{Text}
-use Rattle.user_events.proofs.Putting.{position-map}
 use Rattle.component_table.proofs.looking_up.rank_of.Goals as goal
 
 pub returns-clause-rank : goal.returns-clause-rank

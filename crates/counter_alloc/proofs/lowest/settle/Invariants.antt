@@ -1,6 +1,5 @@
 -- only what the place is allowed has changed, and no counter so far would do
-use Rattle.std.proofs.Common.{◌≡◌}
-use Rattle.counter_alloc.specs.Masks.{AreMasks}
+use Rattle.counter_alloc.proofs.Words.{◌≡◌, AreMasks}
 use Rattle.counter_alloc.proofs.FirstAssignment.{Tried}
 use Rattle.counter_alloc.proofs.lowest.settle.Given as goal
 

@@ -1,5 +1,4 @@
-use Rattle.std.specs.Int.{w32}
-use Rattle.std.proofs.lemmas.Nat.Bits.{bit_at_set_same, bit_at_set_other}
+use Rattle.counter_unit.proofs.Words.{w32, bit_at_set_same, bit_at_set_other}
 use Rattle.counter_unit.proofs.selects.set_bit.Goals as goal
 
 pub returns-clause-here : goal.returns-clause-here

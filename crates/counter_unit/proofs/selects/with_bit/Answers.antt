@@ -1,7 +1,4 @@
-use Rattle.std.proofs.Common.{ap, sym, ◌∙◌}
-use Rattle.std.specs.Int.{w32}
-use Rattle.std.proofs.lemmas.Nat.Bits.{bit_at_clear_same, bit_at_clear_other, bit_at_set_same, bit_at_set_other}
-use Rattle.counter_unit.specs.Selects.{bit_of}
+use Rattle.counter_unit.proofs.Words.{ap, sym, ◌∙◌, w32, bit_at_clear_same, bit_at_clear_other, bit_at_set_same, bit_at_set_other, bit_of}
 use Rattle.counter_unit.proofs.selects.with_bit.Goals as goal
 
 pub returns-then-on-clause-here : goal.returns-then-on-clause-here

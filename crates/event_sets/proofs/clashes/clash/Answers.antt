@@ -1,6 +1,5 @@
 -- what the matching answers is what the definition says
-use Rattle.std.proofs.Common.{rules}
-use Rattle.papi_base.proofs.Steps.{none_of}
+use Rattle.event_sets.proofs.Words.{rules, none_of}
 use Rattle.event_sets.proofs.Clashing.{a_clash, are_masks, no_clash}
 use Rattle.event_sets.proofs.clashes.clash.Goals as goal
 

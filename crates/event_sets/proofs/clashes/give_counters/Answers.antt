@@ -1,7 +1,5 @@
 -- the blame of the native events so far is that of all
-use Rattle.std.proofs.Common.{arith}
-use Rattle.std.proofs.lemmas.Bool.Decides.{nat_tests}
-use Rattle.std.proofs.lemmas.Result.{err_from_is_err_and}
+use Rattle.event_sets.proofs.Words.{arith, nat_tests, err_from_is_err_and}
 use Rattle.event_sets.proofs.Clashing.{blame_whole, masks_at, refused_whole}
 use Rattle.event_sets.proofs.clashes.give_counters.Goals as goal
 

@@ -1,7 +1,5 @@
 -- the native events so far have counters of their own
-use Rattle.std.proofs.Common.{◌≡◌, take}
-use Rattle.counter_alloc.specs.Assignments.{Assignable}
-use Rattle.counter_alloc.specs.Masks.{masks_of}
+use Rattle.event_sets.proofs.Words.{◌≡◌, take, Assignable, masks_of}
 use Rattle.event_sets.proofs.clashes.give_counters.Given as goal
 
 abbrev pub invariant-loop-i : goal.invariant-loop-i

@@ -1,8 +1,6 @@
 -- a place joins if it is a member
-use Rattle.std.proofs.Common.{◌≡◌, ◌<◌, ◌∷◌, [], ◌==◌, true, false, arith, sym, ◌∙◌, length, length-append}
-use Rattle.std.specs.Int.{bit_at}
+use Rattle.event_sets.proofs.Words.{◌≡◌, ◌<◌, ◌∷◌, [], ◌==◌, true, false, arith, sym, ◌∙◌, length, length-append, bit_at, get_at}
 use Rattle.event_sets.proofs.Clashing.{member_joins, member_not}
-use Rattle.papi_base.proofs.Steps.{get_at}
 use Rattle.event_sets.proofs.clashes.members.Goals as goal
 use Rattle.event_sets.proofs.clashes.members.Goals.{then-is_member, else-is_member}
 

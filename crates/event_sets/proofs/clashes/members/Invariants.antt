@@ -1,6 +1,5 @@
 -- the members so far, with those of the places that are left, are all
-use Rattle.std.proofs.Common.{◌≡◌, ◌≤◌, ◌++◌, length, drop}
-use Rattle.event_sets.specs.Assigning.{members_from}
+use Rattle.event_sets.proofs.Words.{◌≡◌, ◌≤◌, ◌++◌, length, drop, members_from}
 use Rattle.event_sets.proofs.clashes.members.Given as goal
 
 abbrev pub invariant-loop-i : goal.invariant-loop-i

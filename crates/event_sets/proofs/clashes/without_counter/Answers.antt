@@ -1,8 +1,4 @@
-use Rattle.std.proofs.Common.{◌≡◌, ◌+◌, ◌==◌, true, false, drop, sym, ap, ◌∙◌, arith, Some}
-use Rattle.std.specs.Prelude.{find, if◌then◌else◌}
-use Rattle.std.proofs.lemmas.Bool.Decides.{nat_tests}
-use Rattle.papi_base.specs.declared.native.Native.{Native}
-use Rattle.papi_base.proofs.Steps.{find_at}
+use Rattle.event_sets.proofs.Words.{◌≡◌, ◌+◌, ◌==◌, true, false, drop, sym, ap, ◌∙◌, arith, Some, find, if◌then◌else◌, nat_tests, Native, find_at}
 use Rattle.event_sets.proofs.clashes.without_counter.Goals as goal
 
 pub returns-then-n-eq0 : goal.returns-then-n-eq0

@@ -1,6 +1,5 @@
 -- the first of those that are left is the first of all
-use Rattle.std.proofs.Common.{◌≡◌, ◌==◌, drop}
-use Rattle.std.specs.Prelude.{find}
+use Rattle.event_sets.proofs.Words.{◌≡◌, ◌==◌, drop, find}
 use Rattle.event_sets.proofs.clashes.without_counter.Given as goal
 
 abbrev pub invariant-loop-i : goal.invariant-loop-i

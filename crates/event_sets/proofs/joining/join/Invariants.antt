@@ -1,6 +1,5 @@
 -- what is left joins those so far as all join the first ones
-use Rattle.std.proofs.Common.{◌≡◌, drop}
-use Rattle.postfix_rules.specs.Sameness.{joined_by}
+use Rattle.event_sets.proofs.Words.{◌≡◌, drop, joined_by}
 use Rattle.event_sets.proofs.joining.join.Given as goal
 
 abbrev pub invariant-loop-i : goal.invariant-loop-i

@@ -1,6 +1,5 @@
 -- a native event that is there does not join
-use Rattle.std.proofs.lemmas.Bool.Decides.{nat_tests}
-use Rattle.std.proofs.Common.{arith, length-append}
+use Rattle.event_sets.proofs.Words.{nat_tests, arith, length-append}
 use Rattle.event_sets.proofs.JoinedNatives.{joined_over, joins_new, joins_old}
 use Rattle.event_sets.proofs.joining.joined.Goals as goal
 use Rattle.event_sets.proofs.joining.joined.Goals.{then-not-has_native+else-len, else-not-has_native}

@@ -1,8 +1,6 @@
 -- one event more
-use Rattle.std.proofs.lemmas.Bool.Decides.{nat_tests}
-use Rattle.std.proofs.Common.{arith}
+use Rattle.event_sets.proofs.Words.{nat_tests, arith, drop_at}
 use Rattle.event_sets.proofs.Removed.{after_grows}
-use Rattle.papi_base.proofs.Steps.{drop_at}
 use Rattle.event_sets.proofs.joining.natives_of_all.Goals as goal
 
 pub join-requires : goal.join-requires

@@ -1,6 +1,5 @@
 -- those so far, with the native events of the events that are left, are all
-use Rattle.std.proofs.Common.{◌≡◌, drop}
-use Rattle.postfix_rules.specs.Presets.{natives_after, natives_of}
+use Rattle.event_sets.proofs.Words.{◌≡◌, drop, natives_after, natives_of}
 use Rattle.event_sets.proofs.joining.natives_of_all.Given as goal
 
 abbrev pub invariant-loop-i : goal.invariant-loop-i

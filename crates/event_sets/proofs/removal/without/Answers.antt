@@ -1,6 +1,5 @@
-use Rattle.std.proofs.Common.{◌≡◌, ◌<◌, ◌∷◌, [], length, take, arith, length-append, length-take-le}
+use Rattle.event_sets.proofs.Words.{◌≡◌, ◌<◌, ◌∷◌, [], length, take, arith, length-append, length-take-le, get_at}
 use Rattle.event_sets.proofs.Removed.{goes_at, stays_at}
-use Rattle.papi_base.proofs.Steps.{get_at}
 use Rattle.event_sets.proofs.removal.without.Goals as goal
 use Rattle.event_sets.proofs.removal.without.Goals.{then-i-place, else-i-place}
 

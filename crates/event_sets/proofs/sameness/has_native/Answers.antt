@@ -1,7 +1,4 @@
-use Rattle.std.proofs.Common.{arith}
-use Rattle.std.proofs.Common.{rules}
-use Rattle.std.proofs.lemmas.Bool.Decides.{nat_tests}
-use Rattle.papi_base.proofs.Steps.{any_here, any_later}
+use Rattle.event_sets.proofs.Words.{arith, rules, nat_tests, any_here, any_later}
 use Rattle.event_sets.proofs.sameness.has_native.Goals as goal
 
 pub returns-then-is_same : goal.returns-then-is_same

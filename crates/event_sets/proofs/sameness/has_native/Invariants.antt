@@ -1,7 +1,5 @@
 -- those that are left have it if all do
-use Rattle.std.proofs.Common.{◌≡◌, drop}
-use Rattle.std.specs.List.{list_any}
-use Rattle.postfix_rules.specs.Sameness.{same_native}
+use Rattle.event_sets.proofs.Words.{◌≡◌, drop, list_any, same_native}
 use Rattle.event_sets.proofs.sameness.has_native.Given as goal
 
 abbrev pub invariant-loop-i : goal.invariant-loop-i

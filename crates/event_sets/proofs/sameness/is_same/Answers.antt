@@ -1,5 +1,4 @@
-use Rattle.std.proofs.Common.{◌∙◌}
-use Rattle.postfix_rules.proofs.AllFields.{natives_same}
+use Rattle.event_sets.proofs.Words.{◌∙◌, natives_same}
 use Rattle.event_sets.proofs.sameness.is_same.Goals as goal
 
 pub returns : goal.returns

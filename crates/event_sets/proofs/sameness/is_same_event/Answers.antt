@@ -1,5 +1,4 @@
-use Rattle.std.proofs.Common.{◌∙◌}
-use Rattle.postfix_rules.proofs.AllFields.{events_same}
+use Rattle.event_sets.proofs.Words.{◌∙◌, events_same}
 use Rattle.event_sets.proofs.sameness.is_same_event.Goals as goal
 
 pub returns : goal.returns

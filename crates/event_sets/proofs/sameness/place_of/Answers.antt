@@ -1,6 +1,4 @@
-use Rattle.std.proofs.Common.{arith}
-use Rattle.std.proofs.lemmas.Bool.Decides.{nat_tests}
-use Rattle.papi_base.proofs.Steps.{any_here, any_later, found_here, found_later}
+use Rattle.event_sets.proofs.Words.{arith, nat_tests, any_here, any_later, found_here, found_later}
 use Rattle.event_sets.proofs.sameness.place_of.Goals as goal
 
 pub returns-then-is_same_event-clause-there : goal.returns-then-is_same_event-clause-there

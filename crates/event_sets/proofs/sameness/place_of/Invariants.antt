@@ -1,7 +1,5 @@
 -- it is among those that are left if it is in the list, and its place is the first one there
-use Rattle.std.proofs.Common.{◌≡◌, ◌+◌, drop}
-use Rattle.std.specs.List.{list_any, position_or_len}
-use Rattle.postfix_rules.specs.Sameness.{same_event}
+use Rattle.event_sets.proofs.Words.{◌≡◌, ◌+◌, drop, list_any, position_or_len, same_event}
 use Rattle.event_sets.proofs.sameness.place_of.Given as goal
 
 abbrev pub invariant-loop-i : goal.invariant-loop-i

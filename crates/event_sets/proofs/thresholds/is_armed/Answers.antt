@@ -1,6 +1,4 @@
-use Rattle.std.proofs.Common.{◌∙◌, sym, ap, arith}
-use Rattle.std.specs.Prelude.{nat_lt}
-use Rattle.papi_base.proofs.Steps.{any_later, drop_at}
+use Rattle.event_sets.proofs.Words.{◌∙◌, sym, ap, arith, nat_lt, any_later, drop_at}
 use Rattle.event_sets.proofs.thresholds.is_armed.Goals as goal
 
 pub returns-then-at-ne0 : goal.returns-then-at-ne0

@@ -1,7 +1,4 @@
-use Rattle.std.proofs.Common.{◌≡◌, ◌+◌, ◌||◌, drop, arith}
-use Rattle.std.proofs.lemmas.Bool.Decides.{nat_tests}
-use Rattle.papi_base.proofs.InPlace.{number_at}
-use Rattle.event_sets.specs.AtRest.{armed_elsewhere}
+use Rattle.event_sets.proofs.Words.{◌≡◌, ◌+◌, ◌||◌, drop, arith, nat_tests, number_at, armed_elsewhere}
 use Rattle.event_sets.proofs.Arming.{armed_at}
 use Rattle.event_sets.proofs.thresholds.is_armed_elsewhere.Goals as goal
 use Rattle.event_sets.proofs.thresholds.is_armed_elsewhere.Goals.{After-is_armed_on}

@@ -1,6 +1,5 @@
 -- one of those that are left has a threshold on it if one of all does
-use Rattle.std.proofs.Common.{◌≡◌, drop}
-use Rattle.event_sets.specs.AtRest.{armed_elsewhere}
+use Rattle.event_sets.proofs.Words.{◌≡◌, drop, armed_elsewhere}
 use Rattle.event_sets.proofs.thresholds.is_armed_elsewhere.Given as goal
 
 abbrev pub invariant-loop-i : goal.invariant-loop-i

@@ -1,6 +1,5 @@
-use Rattle.std.proofs.Common.{◌≡◌, ◌<◌, ◌+◌, length, take, ap, sym, subst, ◌∙◌, arith, slice_get, Some, ℕ, length-take-le}
-use Rattle.papi_base.proofs.InPlace.{number_at}
-use Rattle.event_sets.specs.AtRest.{least_width}
+use Rattle.event_sets.proofs.Words.{◌≡◌, ◌<◌, ◌+◌, length, take, ap, sym, subst, ◌∙◌, arith, slice_get, Some, ℕ, length-take-le, number_at}
+use Rattle.event_sets.proofs.Words.{least_width}
 use Rattle.event_sets.proofs.Arming.{least_first, least_next}
 use Rattle.event_sets.proofs.thresholds.least_width.Goals as goal
 use Rattle.event_sets.proofs.thresholds.least_width.Goals.{then-c-eq0, then-c-eq0-via-then-c-eq0, then-c-eq0-via-else-c-eq0+then-width-least, else-c-eq0+else-width-least}

@@ -1,6 +1,5 @@
 -- the least of the widths so far
-use Rattle.std.proofs.Common.{◌≡◌, ◌≤◌, take}
-use Rattle.event_sets.specs.AtRest.{least_width}
+use Rattle.event_sets.proofs.Words.{◌≡◌, ◌≤◌, take, least_width}
 use Rattle.event_sets.proofs.thresholds.least_width.Given as goal
 
 abbrev pub invariant-loop-c : goal.invariant-loop-c

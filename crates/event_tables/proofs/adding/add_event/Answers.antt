@@ -1,10 +1,5 @@
-use Rattle.std.proofs.Common.{◌≡◌, ◌∙◌, ◌∷◌, ◌++◌, [], map, length, refl, ap, rules, arith}
-use Rattle.std.proofs.lemmas.List.{length-map, map-append}
-use Rattle.std.specs.HashMap.{get_by_text}
-use Rattle.event_tables.specs.Lines.{words_of}
-use Rattle.event_tables.specs.Tables.{EventText}
-use Rattle.event_tables.specs.Unit.{bits_of, event_row}
-use Rattle.event_tables.specs.Views.{counter_text, event_text}
+use Rattle.event_tables.proofs.Words.{◌≡◌, ◌∙◌, ◌∷◌, ◌++◌, [], map, length, refl, ap, rules, arith, length-map, map-append, get_by_text, words_of}
+use Rattle.event_tables.proofs.Words.{EventText, bits_of, event_row, counter_text, event_text}
 use Rattle.event_tables.proofs.Indexing.{indexed-more}
 use Rattle.event_tables.proofs.adding.add_event.Goals as goal
 

@@ -1,11 +1,6 @@
-use Rattle.std.proofs.Common.{◌≡◌, ◌∙◌, ◌+◌, ◌-◌, ◌∷◌, [], List, length, map, ap, arith}
-use Rattle.std.proofs.lemmas.List.{map-append}
-use Rattle.std.specs.Prelude.{string_bytes}
-use Rattle.event_tables.specs.Tables.{ComponentText, EventText, MaskText}
-use Rattle.event_tables.specs.Steps.{with_inner_mask, with_mask}
-use Rattle.event_tables.specs.Views.{component_text, counter_text, event_text, mask_text}
-use Rattle.event_tables.specs.declared.component.EventRow.{EventRow}
-use Rattle.std.specs.HashMap.{get_by_text}
+use Rattle.event_tables.proofs.Words.{◌≡◌, ◌∙◌, ◌+◌, ◌-◌, ◌∷◌, [], List, length, map, ap, arith, map-append, string_bytes, ComponentText, EventText}
+use Rattle.event_tables.proofs.Words.{MaskText, with_inner_mask, with_mask, component_text, counter_text, event_text, mask_text, EventRow}
+use Rattle.event_tables.proofs.Words.{get_by_text}
 use Rattle.event_tables.proofs.Growing.{on_last-set}
 use Rattle.event_tables.proofs.Indexing.{indexed-masked}
 use Rattle.event_tables.proofs.adding.add_mask.Goals as goal

@@ -1,13 +1,6 @@
-use Rattle.std.proofs.Common.{◌≡◌, ◌∙◌, ◌+◌, ◌-◌, ℕ, List, length, map, refl, ap, rules, arith}
-use Rattle.std.proofs.lemmas.List.{length-map}
-use Rattle.std.specs.HashMap.{get_by_text}
-use Rattle.std.specs.Prelude.{string_bytes}
-use Rattle.event_tables.specs.Lines.{words_of}
-use Rattle.event_tables.specs.Steps.{on_last_mask}
-use Rattle.event_tables.specs.Tables.{ComponentText, EventText, MaskText}
-use Rattle.event_tables.specs.Unit.{bits_of, on_last, restricted}
-use Rattle.event_tables.specs.Views.{counter_text, event_text, mask_text}
-use Rattle.event_tables.specs.declared.component.EventRow.{EventRow}
+use Rattle.event_tables.proofs.Words.{◌≡◌, ◌∙◌, ◌+◌, ◌-◌, ℕ, List, length, map, refl, ap, rules, arith, length-map, get_by_text, string_bytes}
+use Rattle.event_tables.proofs.Words.{words_of, on_last_mask, ComponentText, EventText, MaskText, bits_of, on_last, restricted, counter_text}
+use Rattle.event_tables.proofs.Words.{event_text, mask_text, EventRow}
 use Rattle.event_tables.proofs.Growing.{on_last-set}
 use Rattle.event_tables.proofs.Indexing.{indexed-changed}
 use Rattle.event_tables.proofs.adding.add_mask_counters.Goals as goal

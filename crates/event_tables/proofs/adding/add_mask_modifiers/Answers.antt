@@ -1,12 +1,5 @@
-use Rattle.std.proofs.Common.{◌≡◌, ◌∙◌, ◌+◌, ◌-◌, List, length, map, refl, ap, arith}
-use Rattle.std.proofs.lemmas.List.{length-map}
-use Rattle.std.specs.HashMap.{get_by_text}
-use Rattle.std.specs.Prelude.{string_bytes}
-use Rattle.event_tables.specs.Steps.{on_last_mask}
-use Rattle.event_tables.specs.Tables.{ComponentText, EventText, MaskText}
-use Rattle.event_tables.specs.Unit.{fixing}
-use Rattle.event_tables.specs.Views.{counter_text, event_text}
-use Rattle.event_tables.specs.declared.component.EventRow.{EventRow}
+use Rattle.event_tables.proofs.Words.{◌≡◌, ◌∙◌, ◌+◌, ◌-◌, List, length, map, refl, ap, arith, length-map, get_by_text, string_bytes, on_last_mask}
+use Rattle.event_tables.proofs.Words.{ComponentText, EventText, MaskText, fixing, counter_text, event_text, EventRow}
 use Rattle.event_tables.proofs.Growing.{on_last-set}
 use Rattle.event_tables.proofs.Indexing.{indexed-changed}
 use Rattle.event_tables.proofs.adding.add_mask_modifiers.Goals as goal

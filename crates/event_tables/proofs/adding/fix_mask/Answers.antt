@@ -1,7 +1,4 @@
-use Rattle.std.proofs.Common.{◌≡◌, ◌+◌, ◌-◌, length, ap, arith}
-use Rattle.event_tables.specs.Unit.{fixing}
-use Rattle.event_tables.specs.Views.{mask_text}
-use Rattle.event_tables.specs.declared.component.UmaskRow.{UmaskRow}
+use Rattle.event_tables.proofs.Words.{◌≡◌, ◌+◌, ◌-◌, length, ap, arith, fixing, mask_text, UmaskRow}
 use Rattle.event_tables.proofs.Growing.{on_last-set}
 use Rattle.event_tables.proofs.adding.fix_mask.Goals as goal
 

@@ -1,6 +1,5 @@
 use Rattle.std.proofs.Common.{◌≡◌, ◌∙◌, ap, string_bytes}
-use Rattle.std.proofs.lemmas.Map.Text.{hash_map_updates_text}
-use Rattle.std.specs.Str.{str_to_ascii_lowercase}
+use Rattle.event_tables.proofs.Words.{hash_map_updates_text, str_to_ascii_lowercase}
 use Rattle.event_tables.proofs.adding.note_row.Goals as goal
 
 pub returns : goal.returns

@@ -1,12 +1,5 @@
-use Rattle.std.proofs.Common.{◌∙◌, ◌-◌, ◌<◌, length, map, vec_len, refl, sym, ap, subst, arith}
-use Rattle.std.proofs.lemmas.List.{length-map}
-use Rattle.std.proofs.lemmas.Result.{on_ok_weaker}
-use Rattle.event_tables.specs.Lines.{row_line}
-use Rattle.event_tables.specs.Steps.{grown}
-use Rattle.event_tables.specs.Index.{IsIndexed}
-use Rattle.event_tables.specs.Kept.{IsComponent}
-use Rattle.event_tables.specs.Views.{component_text, counter_text, event_text}
-use Rattle.event_tables.specs.declared.component.Component.{Component}
+use Rattle.event_tables.proofs.Words.{◌∙◌, ◌-◌, ◌<◌, length, map, vec_len, refl, sym, ap, subst, arith, length-map, on_ok_weaker, row_line, grown}
+use Rattle.event_tables.proofs.Words.{IsIndexed, IsComponent, component_text, counter_text, event_text, Component}
 use Rattle.event_tables.proofs.Growing.{all-at, inner-row, inner-with, none-above, on_last-set, owner}
 use Rattle.event_tables.proofs.Items.{all-item, all-set}
 use Rattle.event_tables.proofs.adding.put_row.Goals as goal

@@ -1,9 +1,5 @@
-use Rattle.std.proofs.Common.{◌∙◌, Some, None, map, refl, sym, arith}
-use Rattle.std.proofs.lemmas.List.{length-map}
-use Rattle.event_tables.specs.Index.{IsIndexed}
-use Rattle.event_tables.specs.Kept.{IsComponent}
-use Rattle.event_tables.specs.Unit.{cause_in}
-use Rattle.event_tables.specs.Views.{component_text, counter_text}
+use Rattle.event_tables.proofs.Words.{◌∙◌, Some, None, map, refl, sym, arith, length-map, IsIndexed, IsComponent, cause_in, component_text}
+use Rattle.event_tables.proofs.Words.{counter_text}
 use Rattle.event_tables.proofs.Growing.{all-at, cause-alone, cause-inner, last_of-map}
 use Rattle.event_tables.proofs.cause.cause_of.Goals as goal
 

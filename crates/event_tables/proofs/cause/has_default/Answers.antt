@@ -1,8 +1,4 @@
-use Rattle.std.proofs.Common.{◌∙◌, rules, tests}
-use Rattle.std.proofs.lemmas.Iterator.{YieldsList-from_slice}
-use Rattle.std.proofs.lemmas.Iterator.Search.{any_from_yields_List}
-use Rattle.papi_base.proofs.Steps.{list_any-map}
-use Rattle.event_tables.specs.Views.{mask_text}
+use Rattle.event_tables.proofs.Words.{◌∙◌, rules, tests, YieldsList-from_slice, any_from_yields_List, list_any-map, mask_text}
 use Rattle.event_tables.proofs.cause.has_default.Goals as goal
 
 pub returns : goal.returns

@@ -1,10 +1,4 @@
-use Rattle.std.proofs.Common.{◌≡◌, ◌∙◌, map, ap}
-use Rattle.std.specs.Prelude.{is_some}
-use Rattle.std.specs.HashMap.{get_by_text}
-use Rattle.std.specs.Str.{str_to_ascii_lowercase}
-use Rattle.table_rows.specs.Texts.{Text}
-use Rattle.event_tables.specs.Tables.{EventText, same_name}
-use Rattle.event_tables.specs.Views.{event_text}
+use Rattle.event_tables.proofs.Words.{◌≡◌, ◌∙◌, map, ap, is_some, get_by_text, str_to_ascii_lowercase, Text, EventText, same_name, event_text}
 use Rattle.event_tables.proofs.Indexing.{any-found}
 use Rattle.event_tables.proofs.cause.has_event.Goals as goal
 

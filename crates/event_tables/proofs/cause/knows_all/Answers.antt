@@ -1,12 +1,5 @@
-use Rattle.std.proofs.Common.{◌∙◌, map, rules, tests}
-use Rattle.std.specs.Prelude.{◌||◌, ◌==◌, is_some}
-use Rattle.std.proofs.lemmas.Iterator.Splits.{YieldsList-from_slice_split}
-use Rattle.std.proofs.lemmas.Iterator.Search.{all_from_yields_List}
-use Rattle.std.specs.List.{slice_split}
-use Rattle.table_rows.specs.Texts.{is_empty}
-use Rattle.event_tables.specs.Lines.{words_of}
-use Rattle.event_tables.specs.Unit.{counter_place}
-use Rattle.event_tables.specs.Views.{counter_text}
+use Rattle.event_tables.proofs.Words.{◌∙◌, map, rules, tests, ◌||◌, ◌==◌, is_some, YieldsList-from_slice_split, all_from_yields_List, slice_split}
+use Rattle.event_tables.proofs.Words.{is_empty, words_of, counter_place, counter_text}
 use Rattle.event_tables.proofs.Searches.{all-filled}
 use Rattle.event_tables.proofs.cause.knows_all.Goals as goal
 

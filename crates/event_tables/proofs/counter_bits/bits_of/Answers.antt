@@ -1,13 +1,5 @@
-use Rattle.std.proofs.Common.{◌∙◌, map, rules, tests}
-use Rattle.std.specs.Prelude.{◌==◌, if◌then◌else◌}
-use Rattle.std.specs.Int.RustNames.{bit_or}
-use Rattle.std.proofs.lemmas.Iterator.Consumers.{fold_from_yields_List}
-use Rattle.std.proofs.lemmas.Iterator.Splits.{YieldsList-from_slice_split}
-use Rattle.std.specs.List.{slice_split}
-use Rattle.table_rows.specs.Texts.{is_empty}
-use Rattle.event_tables.specs.Lines.{words_of}
-use Rattle.event_tables.specs.Unit.{counter_place, place_bit}
-use Rattle.event_tables.specs.Views.{counter_text}
+use Rattle.event_tables.proofs.Words.{◌∙◌, map, rules, tests, ◌==◌, if◌then◌else◌, bit_or, fold_from_yields_List, YieldsList-from_slice_split}
+use Rattle.event_tables.proofs.Words.{slice_split, is_empty, words_of, counter_place, place_bit, counter_text}
 use Rattle.event_tables.proofs.Bits.{fold-filled}
 use Rattle.event_tables.proofs.counter_bits.bits_of.Goals as goal
 

@@ -1,10 +1,5 @@
-use Rattle.std.proofs.Common.{◌≡◌, ◌∙◌, ◌<◌, false, map, sym, ap, rules, arith}
-use Rattle.std.proofs.lemmas.List.{length-map}
-use Rattle.std.specs.Str.{bytes_eq}
-use Rattle.table_rows.specs.Texts.{is_empty}
-use Rattle.event_tables.specs.Unit.{place_bit}
-use Rattle.event_tables.specs.Views.{counter_text}
-use Rattle.event_tables.specs.Tables.{CounterText}
+use Rattle.event_tables.proofs.Words.{◌≡◌, ◌∙◌, ◌<◌, false, map, sym, ap, rules, arith, length-map, bytes_eq, is_empty, place_bit, counter_text}
+use Rattle.event_tables.proofs.Words.{CounterText}
 use Rattle.event_tables.proofs.Searches.{position_from-lt}
 use Rattle.event_tables.proofs.Bits.{bit-shifted}
 use Rattle.event_tables.proofs.counter_bits.counter_bit.Goals as goal

@@ -1,11 +1,5 @@
-use Rattle.std.proofs.Common.{◌∙◌, rules, tests}
-use Rattle.std.specs.Prelude.{string_bytes}
-use Rattle.std.proofs.lemmas.Iterator.{YieldsList-from_slice}
-use Rattle.std.proofs.lemmas.Iterator.Search.{position_from_yields_List}
-use Rattle.std.proofs.lemmas.Iterator.Adapters.{position_from-zero}
-use Rattle.std.specs.Str.{bytes_eq}
-use Rattle.event_tables.specs.declared.component.Counter.{Counter}
-use Rattle.event_tables.specs.Views.{counter_text}
+use Rattle.event_tables.proofs.Words.{◌∙◌, rules, tests, string_bytes, YieldsList-from_slice, position_from_yields_List, position_from-zero, bytes_eq}
+use Rattle.event_tables.proofs.Words.{Counter, counter_text}
 use Rattle.event_tables.proofs.Searches.{position_from-map}
 use Rattle.event_tables.proofs.counter_bits.counter_place.Goals as goal
 

@@ -1,5 +1,4 @@
-use Rattle.std.proofs.Common.{◌∙◌, sym, arith}
-use Rattle.table_rows.proofs.Ranges.{decimal_in-range}
+use Rattle.event_tables.proofs.Words.{◌∙◌, sym, arith, decimal_in-range}
 use Rattle.event_tables.proofs.row.amount_of.Goals as goal
 
 pub overflow_cast-result : goal.overflow_cast-result

@@ -1,10 +1,5 @@
-use Rattle.std.proofs.Common.{◌∙◌, rules, tests}
-use Rattle.std.specs.Prelude.{◌||◌, ◌==◌}
-use Rattle.std.proofs.lemmas.Iterator.Splits.{YieldsList-from_slice_split}
-use Rattle.std.proofs.lemmas.Iterator.Search.{all_from_yields_List}
-use Rattle.std.specs.List.{slice_split}
-use Rattle.table_rows.specs.Texts.{is_empty, is_name}
-use Rattle.event_tables.specs.Lines.{words_of}
+use Rattle.event_tables.proofs.Words.{◌∙◌, rules, tests, ◌||◌, ◌==◌, YieldsList-from_slice_split, all_from_yields_List, slice_split, is_empty}
+use Rattle.event_tables.proofs.Words.{is_name, words_of}
 use Rattle.event_tables.proofs.Searches.{all-filled}
 use Rattle.event_tables.proofs.row.are_all_names.Goals as goal
 

@@ -1,8 +1,4 @@
-use Rattle.std.proofs.Common.{◌∙◌, rules, tests}
-use Rattle.std.specs.Prelude.{◌==◌, not}
-use Rattle.std.proofs.lemmas.Iterator.Splits.{YieldsList-from_slice_split}
-use Rattle.std.proofs.lemmas.Iterator.Search.{any_from_yields_List}
-use Rattle.table_rows.specs.Texts.{is_empty}
+use Rattle.event_tables.proofs.Words.{◌∙◌, rules, tests, ◌==◌, not, YieldsList-from_slice_split, any_from_yields_List, is_empty}
 use Rattle.event_tables.proofs.Searches.{has_word-filled}
 use Rattle.event_tables.proofs.row.has_word.Goals as goal
 

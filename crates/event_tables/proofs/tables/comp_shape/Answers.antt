@@ -1,7 +1,4 @@
-use Rattle.std.proofs.Common.{subst, sym}
-use Rattle.event_tables.specs.Kept.{IsCounter}
-use Rattle.event_tables.specs.Views.{counter_text}
-use Rattle.event_tables.specs.declared.component.Counter.{Counter}
+use Rattle.event_tables.proofs.Words.{subst, sym, IsCounter, counter_text, Counter}
 use Rattle.event_tables.proofs.Items.{all-get}
 use Rattle.event_tables.proofs.tables.comp_shape.Goals as goal
 

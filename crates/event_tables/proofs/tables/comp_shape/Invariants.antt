@@ -1,5 +1,4 @@
-use Rattle.std.proofs.Common.{◌≡◌, map, take}
-use Rattle.event_tables.specs.Views.{counter_text}
+use Rattle.event_tables.proofs.Words.{◌≡◌, map, take, counter_text}
 use Rattle.event_tables.proofs.tables.comp_shape.Given as goal
 
 abbrev pub invariant-loop-k : goal.invariant-loop-k

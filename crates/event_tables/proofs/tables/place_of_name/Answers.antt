@@ -1,11 +1,5 @@
-use Rattle.std.proofs.Common.{◌∙◌, rules, tests}
-use Rattle.std.specs.Prelude.{string_bytes}
-use Rattle.std.proofs.lemmas.Iterator.{YieldsList-from_slice}
-use Rattle.std.proofs.lemmas.Iterator.Search.{position_from_yields_List}
-use Rattle.std.proofs.lemmas.Iterator.Adapters.{position_from-zero}
-use Rattle.event_tables.specs.Tables.{same_name}
-use Rattle.event_tables.specs.declared.component.Component.{Component}
-use Rattle.event_tables.specs.Views.{component_text}
+use Rattle.event_tables.proofs.Words.{◌∙◌, rules, tests, string_bytes, YieldsList-from_slice, position_from_yields_List, position_from-zero}
+use Rattle.event_tables.proofs.Words.{same_name, Component, component_text}
 use Rattle.event_tables.proofs.Searches.{position_from-map}
 use Rattle.event_tables.proofs.tables.place_of_name.Goals as goal
 

@@ -1,10 +1,5 @@
-use Rattle.std.proofs.Common.{List, map, subst, sym, arith}
-use Rattle.std.proofs.lemmas.List.{length-map}
-use Rattle.std.specs.List.{AllByRecursion}
-use Rattle.event_tables.specs.Kept.{IsComponent, IsCounter}
-use Rattle.event_tables.specs.Views.{component_text, counter_text}
-use Rattle.event_tables.specs.declared.component.Component.{Component}
-use Rattle.event_tables.specs.declared.component.Counter.{Counter}
+use Rattle.event_tables.proofs.Words.{List, map, subst, sym, arith, length-map, AllByRecursion, IsComponent, IsCounter, component_text, counter_text}
+use Rattle.event_tables.proofs.Words.{Component, Counter}
 use Rattle.event_tables.proofs.Items.{all-get}
 use Rattle.event_tables.proofs.tables.shape_of.Goals as goal
 

@@ -1,6 +1,4 @@
-use Rattle.std.proofs.Common.{◌≡◌, map, take}
-use Rattle.event_tables.specs.Tables.{shape_of}
-use Rattle.event_tables.specs.Views.{component_text}
+use Rattle.event_tables.proofs.Words.{◌≡◌, map, take, shape_of, component_text}
 use Rattle.event_tables.proofs.tables.shape_of.Given as goal
 
 abbrev pub invariant-loop-c : goal.invariant-loop-c

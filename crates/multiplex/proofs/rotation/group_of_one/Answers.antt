@@ -1,8 +1,5 @@
 -- one native event with a counter fits
-use Rattle.std.proofs.Common.{◌++◌, ◌∷◌, [], ap, ◌∙◌}
-use Rattle.counter_alloc.specs.Listing.{is_assignable}
-use Rattle.counter_alloc.specs.Matchings.{MatchingView}
-use Rattle.counter_alloc.proofs.Fitting.{is_assignable_one, mask_small}
+use Rattle.multiplex.proofs.Words.{◌++◌, ◌∷◌, [], ap, ◌∙◌, is_assignable, MatchingView, is_assignable_one, mask_small}
 use Rattle.multiplex.proofs.rotation.group_of_one.Goals as goal
 
 pub returns : goal.returns

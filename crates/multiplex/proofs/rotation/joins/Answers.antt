@@ -1,6 +1,5 @@
 -- the matching takes what the test says yes of
-use Rattle.std.proofs.Common.{◌++◌, ◌∷◌, [], ◌∙◌}
-use Rattle.counter_alloc.proofs.Fitting.{is_ok-assignable, masks_push, mask_small}
+use Rattle.multiplex.proofs.Words.{◌++◌, ◌∷◌, [], ◌∙◌, is_ok-assignable, masks_push, mask_small}
 use Rattle.multiplex.proofs.rotation.joins.Goals as goal
 
 pub returns-clause-fits : goal.returns-clause-fits

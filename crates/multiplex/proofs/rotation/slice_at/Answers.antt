@@ -1,6 +1,5 @@
 -- a tick's slice begins at a multiple of its length, and the group of its number runs in it
-use Rattle.std.proofs.Common.{◌%◌, ◌/◌}
-use Rattle.multiplex.specs.Rotations.{IsSpanOf}
+use Rattle.multiplex.proofs.Words.{◌%◌, ◌/◌, IsSpanOf}
 use Rattle.multiplex.proofs.Slices.{slice_is}
 use Rattle.multiplex.proofs.rotation.slice_at.Goals as goal
 use Rattle.multiplex.proofs.rotation.slice_at.Goals.{After-places_of}

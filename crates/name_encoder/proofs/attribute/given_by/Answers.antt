@@ -1,11 +1,6 @@
-use Rattle.std.proofs.Common.{◌≡◌, ◌∙◌, Err, map, sym, ap, rules}
+use Rattle.name_encoder.proofs.Words.{◌≡◌, ◌∙◌, Err, map, sym, ap, rules, Bor, Text, mask_text, all_given, given_next, saids_of, between_colons}
+use Rattle.name_encoder.proofs.Words.{text_of}
 use Rattle.std.specs.Prelude.{Option}
-use Rattle.std.specs.Borrow.{Bor}
-use Rattle.table_rows.specs.Texts.{Text}
-use Rattle.event_tables.specs.Views.{mask_text}
-use Rattle.name_encoder.specs.Judged.{all_given, given_next}
-use Rattle.name_encoder.specs.Names.{saids_of}
-use Rattle.name_encoder.specs.Views.{between_colons, text_of}
 use Rattle.name_encoder.proofs.Steps.{all-done, all-step}
 use Rattle.name_encoder.proofs.attribute.given_by.Goals as goal
 

@@ -1,8 +1,4 @@
-use Rattle.std.proofs.Common.{◌≡◌, length, map}
-use Rattle.event_tables.specs.Views.{mask_text}
-use Rattle.name_encoder.specs.Judged.{all_given, nothing}
-use Rattle.name_encoder.specs.Names.{saids_of}
-use Rattle.name_encoder.specs.Views.{between_colons, text_of}
+use Rattle.name_encoder.proofs.Words.{◌≡◌, length, map, mask_text, all_given, nothing, saids_of, between_colons, text_of}
 use Rattle.name_encoder.proofs.attribute.given_by.Given as goal
 
 abbrev pub invariant-loop-rest : goal.invariant-loop-rest

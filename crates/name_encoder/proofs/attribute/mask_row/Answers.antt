@@ -1,12 +1,5 @@
-use Rattle.std.proofs.Common.{◌∙◌, rules, tests}
-use Rattle.std.specs.Prelude.{string_bytes}
-use Rattle.std.specs.Str.{str_eq_ignore_ascii_case}
-use Rattle.std.proofs.lemmas.Iterator.{YieldsList-from_slice}
-use Rattle.std.proofs.lemmas.Iterator.Search.{position_from_yields_List}
-use Rattle.std.proofs.lemmas.Iterator.Adapters.{position_from-zero}
-use Rattle.event_tables.specs.Views.{mask_text}
-use Rattle.event_tables.specs.declared.component.UmaskRow.{UmaskRow}
-use Rattle.event_tables.proofs.Searches.{position_from-map}
+use Rattle.name_encoder.proofs.Words.{◌∙◌, rules, tests, string_bytes, str_eq_ignore_ascii_case, YieldsList-from_slice, position_from_yields_List}
+use Rattle.name_encoder.proofs.Words.{position_from-zero, mask_text, UmaskRow, position_from-map}
 use Rattle.name_encoder.proofs.attribute.mask_row.Goals as goal
 
 pub returns : goal.returns

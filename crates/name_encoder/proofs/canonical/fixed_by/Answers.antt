@@ -1,10 +1,5 @@
-use Rattle.std.proofs.Common.{◌≡◌, ◌∙◌, ◌+◌, ◌/◌, ◌%◌, ◌==◌, ◌<◌, ◌≤◌, ℕ, List, length, drop, get_or, map, refl, sym, ap}
-use Rattle.std.proofs.lemmas.List.{drop_more, drop_all}
-use Rattle.event_tables.specs.Views.{mask_text}
-use Rattle.event_tables.specs.declared.component.FixedMods.{FixedMods}
-use Rattle.event_tables.specs.declared.component.UmaskRow.{UmaskRow}
-use Rattle.name_encoder.specs.Canonical.{flags_in}
-use Rattle.name_encoder.specs.Names.{both_fixed, fixed_if, fixed_of}
+use Rattle.name_encoder.proofs.Words.{◌≡◌, ◌∙◌, ◌+◌, ◌/◌, ◌%◌, ◌==◌, ◌<◌, ◌≤◌, ℕ, List, length, drop, get_or, map, refl, sym, ap, drop_more, drop_all}
+use Rattle.name_encoder.proofs.Words.{mask_text, FixedMods, UmaskRow, flags_in, both_fixed, fixed_if, fixed_of}
 use Rattle.name_encoder.proofs.canonical.fixed_by.Goals as goal
 
 fixed-next : (acc : FixedMods) (bits : ℕ) (xs : List UmaskRow) (i : ℕ) (d : UmaskRow) → i < length xs

@@ -1,6 +1,4 @@
-use Rattle.std.proofs.Common.{◌≡◌, drop, map}
-use Rattle.event_tables.specs.Views.{mask_text}
-use Rattle.name_encoder.specs.Canonical.{flags_in}
+use Rattle.name_encoder.proofs.Words.{◌≡◌, drop, map, mask_text, flags_in}
 use Rattle.name_encoder.specs.Names as Names
 use Rattle.name_encoder.proofs.canonical.fixed_by.Given as goal
 

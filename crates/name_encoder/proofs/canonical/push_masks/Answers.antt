@@ -1,10 +1,6 @@
-use Rattle.std.proofs.Common.{◌≡◌, ◌∙◌, ◌+◌, ◌/◌, ◌%◌, ◌==◌, ◌<◌, ◌≤◌, ◌∷◌, ◌++◌, ℕ, List, [], length, get_or, map, drop, refl, sym, ap, append_assoc, append-nil}
-use Rattle.std.proofs.lemmas.List.{drop_more, drop_all}
-use Rattle.std.specs.Prelude.{if◌then◌else◌, string_bytes}
-use Rattle.table_rows.specs.Texts.{Text}
-use Rattle.event_tables.specs.Views.{mask_text}
-use Rattle.event_tables.specs.declared.component.UmaskRow.{UmaskRow}
-use Rattle.name_encoder.specs.Canonical.{masks_text}
+use Rattle.name_encoder.proofs.Words.{◌≡◌, ◌∙◌, ◌+◌, ◌/◌, ◌%◌, ◌==◌, ◌<◌, ◌≤◌, ◌∷◌, ◌++◌, ℕ, List, [], length, get_or, map, drop, refl, sym, ap}
+use Rattle.name_encoder.proofs.Words.{append_assoc, append-nil, drop_more, drop_all, if◌then◌else◌, string_bytes, Text, mask_text, UmaskRow}
+use Rattle.name_encoder.proofs.Words.{masks_text}
 use Rattle.name_encoder.proofs.canonical.push_masks.Goals as goal
 
 masks-more : (bits : ℕ) (xs : List UmaskRow) (i : ℕ) (d : UmaskRow) → i < length xs

@@ -1,7 +1,4 @@
-use Rattle.std.proofs.Common.{◌≡◌, ◌++◌, drop, map}
-use Rattle.std.specs.Prelude.{string_bytes}
-use Rattle.event_tables.specs.Views.{mask_text}
-use Rattle.name_encoder.specs.Canonical.{masks_text}
+use Rattle.name_encoder.proofs.Words.{◌≡◌, ◌++◌, drop, map, string_bytes, mask_text, masks_text}
 use Rattle.name_encoder.proofs.canonical.push_masks.Given as goal
 
 abbrev pub invariant-loop-m : goal.invariant-loop-m

@@ -1,9 +1,5 @@
-use Rattle.std.proofs.Common.{◌≡◌, List, ℕ, Ok, sym, subst}
-use Rattle.std.specs.Prelude.{string_bytes}
-use Rattle.name_encoder.specs.Canonical.{canonical}
-use Rattle.name_encoder.specs.Names.{names}
+use Rattle.name_encoder.proofs.Words.{◌≡◌, List, ℕ, Ok, sym, subst, string_bytes, canonical, names, IfOk-weaker}
 use Rattle.name_encoder.proofs.Back.{names-back}
-use Rattle.std.proofs.lemmas.Result.{IfOk-weaker}
 use Rattle.name_encoder.proofs.canonical.write_name.Goals as goal
 
 pub returns-clause-back : goal.returns-clause-back

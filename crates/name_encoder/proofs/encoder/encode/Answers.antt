@@ -1,12 +1,5 @@
-use Rattle.std.proofs.Common.{◌≡◌, ◌∙◌, Err, Some, length, sym, ap, rules, arith}
-use Rattle.std.proofs.lemmas.List.{length-map}
-use Rattle.event_tables.specs.Tables.{shape_of}
-use Rattle.event_tables.specs.Kept.{IsComponent, IsEvent}
-use Rattle.event_tables.specs.Views.{counter_text, mask_text}
-use Rattle.name_encoder.specs.Judged.{native_next}
-use Rattle.name_encoder.specs.Names.{FitsShape, found_from, names}
-use Rattle.name_encoder.specs.Split.{split}
-use Rattle.name_encoder.specs.Views.{found_text, parts_split}
+use Rattle.name_encoder.proofs.Words.{◌≡◌, ◌∙◌, Err, Some, length, sym, ap, rules, arith, length-map, shape_of, IsComponent, IsEvent, counter_text}
+use Rattle.name_encoder.proofs.Words.{mask_text, native_next, FitsShape, found_from, names, split, found_text, parts_split}
 use Rattle.name_encoder.proofs.Encoded.{encoded, names-fit, names-none, ok-of}
 use Rattle.name_encoder.proofs.Finds.{found-kept}
 use Rattle.name_encoder.proofs.encoder.encode.Goals as goal

@@ -1,8 +1,5 @@
-use Rattle.std.proofs.Common.{◌≡◌, ◌∙◌, ◌+◌, ℕ, drop, false, get_or, map, sym, ap}
-use Rattle.std.specs.Prelude.{if◌then◌else◌}
-use Rattle.event_tables.specs.Views.{mask_text}
+use Rattle.name_encoder.proofs.Words.{◌≡◌, ◌∙◌, ◌+◌, ℕ, drop, false, get_or, map, sym, ap, if◌then◌else◌, mask_text, met}
 use Rattle.name_encoder.specs.Names as Names
-use Rattle.name_encoder.specs.Names.{met}
 use Rattle.name_encoder.proofs.Fixing.{common-done, common-more}
 use Rattle.name_encoder.proofs.fixed.common_of.Goals as goal
 

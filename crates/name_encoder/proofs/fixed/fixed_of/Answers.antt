@@ -1,8 +1,5 @@
-use Rattle.std.proofs.Common.{◌≡◌, ◌∙◌, ◌+◌, drop, false, get_or, map, sym, ap}
-use Rattle.event_tables.specs.Views.{mask_text}
-use Rattle.event_tables.specs.declared.component.FixedMods.{FixedMods}
+use Rattle.name_encoder.proofs.Words.{◌≡◌, ◌∙◌, ◌+◌, drop, false, get_or, map, sym, ap, mask_text, FixedMods, both_fixed, fixed_if}
 use Rattle.name_encoder.specs.Names as Names
-use Rattle.name_encoder.specs.Names.{both_fixed, fixed_if}
 use Rattle.name_encoder.proofs.Fixing.{fixed-done, fixed-more}
 use Rattle.name_encoder.proofs.fixed.fixed_of.Goals as goal
 

@@ -1,5 +1,4 @@
-use Rattle.std.proofs.Common.{◌≡◌, drop, map}
-use Rattle.event_tables.specs.Views.{mask_text}
+use Rattle.name_encoder.proofs.Words.{◌≡◌, drop, map, mask_text}
 use Rattle.name_encoder.specs.Names as Names
 use Rattle.name_encoder.proofs.fixed.fixed_of.Given as goal
 

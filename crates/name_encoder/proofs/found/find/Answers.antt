@@ -1,7 +1,5 @@
-use Rattle.std.proofs.Common.{◌≡◌, ◌∙◌, None, sym, ap, rules, arith}
+use Rattle.name_encoder.proofs.Words.{◌≡◌, ◌∙◌, None, sym, ap, rules, arith, not_given, found_text, parts_split}
 use Rattle.std.specs.Prelude.{option_map}
-use Rattle.papi_base.proofs.Steps.{not_given}
-use Rattle.name_encoder.specs.Views.{found_text, parts_split}
 use Rattle.name_encoder.proofs.Searching.{component-here, component-later, component-never}
 use Rattle.name_encoder.proofs.Unnamed.{unnamed}
 use Rattle.name_encoder.proofs.found.find.Goals as goal

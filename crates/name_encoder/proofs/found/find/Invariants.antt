@@ -1,6 +1,4 @@
-use Rattle.std.proofs.Common.{◌≡◌, drop}
-use Rattle.name_encoder.specs.Names.{found_from}
-use Rattle.name_encoder.specs.Views.{parts_split}
+use Rattle.name_encoder.proofs.Words.{◌≡◌, drop, found_from, parts_split}
 use Rattle.name_encoder.proofs.found.find.Given as goal
 
 abbrev pub invariant-loop-comp : goal.invariant-loop-comp

@@ -1,7 +1,5 @@
-use Rattle.std.proofs.Common.{◌≡◌, ◌∙◌, Some, None, sym, ap, rules}
+use Rattle.name_encoder.proofs.Words.{◌≡◌, ◌∙◌, Some, None, sym, ap, rules, component_text, event_text, found_text, parts_split}
 use Rattle.std.specs.Prelude.{option_map}
-use Rattle.event_tables.specs.Views.{component_text, event_text}
-use Rattle.name_encoder.specs.Views.{found_text, parts_split}
 use Rattle.name_encoder.proofs.Searching.{place-has, place-lacks}
 use Rattle.name_encoder.proofs.found.found_at.Goals as goal
 

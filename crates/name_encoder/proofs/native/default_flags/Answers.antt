@@ -1,9 +1,5 @@
-use Rattle.std.proofs.Common.{◌≡◌, ◌∙◌, ◌+◌, ◌<◌, ◌∷◌, ◌++◌, ℕ, [], List, Bool, length, map, take, get_or, sym, ap, arith}
-use Rattle.std.proofs.lemmas.List.{length-set, take_more, take_more_set, map-append}
-use Rattle.event_tables.specs.Views.{mask_text}
-use Rattle.event_tables.specs.Tables.{MaskText}
-use Rattle.event_tables.specs.declared.component.UmaskRow.{UmaskRow}
-use Rattle.name_encoder.specs.Names.{choices}
+use Rattle.name_encoder.proofs.Words.{◌≡◌, ◌∙◌, ◌+◌, ◌<◌, ◌∷◌, ◌++◌, ℕ, [], List, Bool, length, map, take, get_or, sym, ap, arith, length-set}
+use Rattle.name_encoder.proofs.Words.{take_more, take_more_set, map-append, mask_text, MaskText, UmaskRow, choices}
 use Rattle.name_encoder.proofs.native.default_flags.Goals as goal
 
 choices-more : (xs : List UmaskRow) (i : ℕ) (d : UmaskRow) → i < length xs → choices (map mask_text (take (i + 1) xs)) ≡ choices (map mask_text (take i xs)) ++ (get_or xs i d).preset_choice ∷ []

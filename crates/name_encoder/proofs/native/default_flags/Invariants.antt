@@ -1,6 +1,4 @@
-use Rattle.std.proofs.Common.{◌≡◌, length, map, take}
-use Rattle.event_tables.specs.Views.{mask_text}
-use Rattle.name_encoder.specs.Names.{choices}
+use Rattle.name_encoder.proofs.Words.{◌≡◌, length, map, take, mask_text, choices}
 use Rattle.name_encoder.proofs.native.default_flags.Given as goal
 
 abbrev pub invariant-loop-i : goal.invariant-loop-i

@@ -1,5 +1,4 @@
-use Rattle.std.proofs.Common.{◌-◌, length, drop, get_or, false, arith}
-use Rattle.std.proofs.lemmas.List.{length-drop}
+use Rattle.name_encoder.proofs.Words.{◌-◌, length, drop, get_or, false, arith, length-drop}
 use Rattle.name_encoder.proofs.Bits.{bits-more, bits-none, bits-small, flag-byte}
 use Rattle.name_encoder.proofs.native.mask_bits.Goals as goal
 

@@ -1,5 +1,4 @@
-use Rattle.std.proofs.Common.{◌≡◌, ◌≤◌, length, drop}
-use Rattle.name_encoder.specs.Flags.{bits_of}
+use Rattle.name_encoder.proofs.Words.{◌≡◌, ◌≤◌, length, drop, bits_of}
 use Rattle.name_encoder.proofs.native.mask_bits.Given as goal
 
 abbrev pub invariant-loop-i : goal.invariant-loop-i

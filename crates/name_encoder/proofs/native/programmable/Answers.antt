@@ -1,6 +1,4 @@
-use Rattle.std.proofs.Common.{◌-◌, length, drop, map, get_or, arith}
-use Rattle.std.proofs.lemmas.List.{length-drop, length-map}
-use Rattle.event_tables.specs.Views.{counter_text}
+use Rattle.name_encoder.proofs.Words.{◌-◌, length, drop, map, get_or, arith, length-drop, length-map, counter_text}
 use Rattle.name_encoder.proofs.Bits.{flag-byte, is_programmable, programmable-more, programmable-none, programmable-small}
 use Rattle.name_encoder.proofs.native.programmable.Goals as goal
 

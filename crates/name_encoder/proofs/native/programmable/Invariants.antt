@@ -1,6 +1,4 @@
-use Rattle.std.proofs.Common.{◌≡◌, ◌≤◌, length, drop, map}
-use Rattle.event_tables.specs.Views.{counter_text}
-use Rattle.name_encoder.specs.Names.{programmable}
+use Rattle.name_encoder.proofs.Words.{◌≡◌, ◌≤◌, length, drop, map, counter_text, programmable}
 use Rattle.name_encoder.proofs.native.programmable.Given as goal
 
 abbrev pub invariant-loop-i : goal.invariant-loop-i

@@ -1,5 +1,4 @@
-use Rattle.std.proofs.Common.{◌-◌, length, sym, arith}
-use Rattle.event_tables.specs.Views.{mask_text}
+use Rattle.name_encoder.proofs.Words.{◌-◌, length, sym, arith, mask_text}
 use Rattle.name_encoder.proofs.Bits.{values-more, values-none}
 use Rattle.name_encoder.proofs.native.umask_of.Goals as goal
 

@@ -1,6 +1,4 @@
-use Rattle.std.proofs.Common.{◌≡◌, ◌≤◌, length, drop, map}
-use Rattle.event_tables.specs.Views.{mask_text}
-use Rattle.name_encoder.specs.Names.{values_of}
+use Rattle.name_encoder.proofs.Words.{◌≡◌, ◌≤◌, length, drop, map, mask_text, values_of}
 use Rattle.name_encoder.proofs.native.umask_of.Given as goal
 
 abbrev pub invariant-loop-i : goal.invariant-loop-i

@@ -1,5 +1,4 @@
-use Rattle.std.proofs.Common.{◌∙◌, length, drop, sym}
-use Rattle.table_rows.proofs.Splits.{rest-whole}
+use Rattle.name_encoder.proofs.Words.{◌∙◌, length, drop, sym, rest-whole}
 use Rattle.name_encoder.proofs.Cuts.{with_front-none, cut-here, cut-later, cut-never}
 use Rattle.name_encoder.proofs.parts.cut_at.Goals as goal
 

@@ -1,5 +1,4 @@
-use Rattle.std.proofs.Common.{◌≡◌, drop, take}
-use Rattle.name_encoder.specs.Split.{cut_at}
+use Rattle.name_encoder.proofs.Words.{◌≡◌, drop, take, cut_at}
 use Rattle.name_encoder.proofs.Cuts.{with_front}
 use Rattle.name_encoder.proofs.parts.cut_at.Given as goal
 

@@ -1,7 +1,4 @@
-use Rattle.std.proofs.Common.{arith, ap, ◌∙◌}
-use Rattle.std.specs.Prelude.{unwrap_or}
-use Rattle.std.proofs.lemmas.List.{length-set}
-use Rattle.papi_calls.specs.Codes.{event_code}
+use Rattle.papi_c.proofs.Words.{arith, ap, ◌∙◌, unwrap_or, length-set, event_code}
 use Rattle.papi_c.proofs.Places.{mapped_on, rest_on}
 use Rattle.papi_c.proofs.codes.list.Goals as goal
 

@@ -1,5 +1,4 @@
-use Rattle.std.proofs.Common.{rules, ◌≡◌, to_z, of_z, w32}
-use Rattle.papi_c.specs.Called.{GaveNumber}
+use Rattle.papi_c.proofs.Words.{rules, ◌≡◌, to_z, of_z, w32, GaveNumber}
 use Rattle.call_type.specs.declared.call.Call.TheVariants as call
 use Rattle.session_model.specs.declared.reply.Body.TheVariants as body
 use Rattle.papi_c.proofs.Handles.{put_back}

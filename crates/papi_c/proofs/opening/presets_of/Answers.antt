@@ -1,11 +1,6 @@
 -- A text with no bytes has no faulty row.
 use Rattle.std.proofs.Common.{◌≡◌, ℕ, List, None, arith, length, refl}
-use Rattle.std.proofs.lemmas.Bool.Decides.{nat_tests}
-use Rattle.std.proofs.lemmas.List.{nil_from_length}
-use Rattle.table_rows.proofs.ReaderRows.{rows-few}
-use Rattle.table_rows.specs.Rows.{rows_of}
-use Rattle.table_rows.specs.Tables.{first_fault}
-use Rattle.user_events.specs.Rows.{extended_fault}
+use Rattle.papi_c.proofs.Words.{nat_tests, nil_from_length, rows-few, rows_of, first_fault, extended_fault}
 use Rattle.papi_c.proofs.opening.presets_of.Goals as goal
 
 none-faulty : (name bytes : List ℕ) → length bytes ≡ 0 → extended_fault name bytes ≡ None

@@ -1,5 +1,4 @@
-use Rattle.std.proofs.Common.{rules, ◌≡◌, ◌∙◌, Some, ap, arith, of_z, to_z, w64}
-use Rattle.std.proofs.lemmas.List.{length-set}
+use Rattle.papi_c.proofs.Words.{rules, ◌≡◌, ◌∙◌, Some, ap, arith, of_z, to_z, w64, length-set}
 use Rattle.papi_c.proofs.Places.{rest_on, taken_on}
 use Rattle.papi_c.proofs.values.give.Goals as goal
 

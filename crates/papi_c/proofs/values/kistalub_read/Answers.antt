@@ -1,6 +1,5 @@
-use Rattle.std.proofs.Common.{rules, ◌≡◌, ◌∙◌, to_z, of_z, w32}
+use Rattle.papi_c.proofs.Words.{rules, ◌≡◌, ◌∙◌, to_z, of_z, w32, GaveValues}
 use Rattle.call_type.specs.declared.call.Call.TheVariants as call
-use Rattle.papi_c.specs.Called.{GaveValues}
 use Rattle.papi_c.proofs.Handles.{put_back}
 use Rattle.papi_c.proofs.Giving.{gave}
 use Rattle.papi_c.proofs.values.kistalub_read.Goals as goal

@@ -1,6 +1,4 @@
-use Rattle.std.proofs.Common.{Ok, rules}
-use Rattle.papi_tools.specs.Choosing.{choice_said, chooser_verdict}
-use Rattle.papi_tools.specs.Contents.{after_tables, catalog_under}
+use Rattle.papi_tools.proofs.Words.{Ok, rules, choice_said, chooser_verdict, after_tables, catalog_under}
 use Rattle.papi_tools.proofs.FindingLemmas.{answered, refused_first}
 use Rattle.papi_tools.proofs.choosing.choose_events.Goals as goal
 

@@ -1,7 +1,4 @@
-use Rattle.std.proofs.Common.{◌≡◌, Err, IfOk, List, Ok, Result, refl, rules, ℕ}
-use Rattle.papi_tools.specs.Openings.{Answers, Is, file_bytes, opened}
-use Rattle.papi_tools.specs.declared.refusal.Refusal.{Refusal}
-use Rattle.papi_tools.specs.declared.refusal.Stop.{Stop}
+use Rattle.papi_tools.proofs.Words.{◌≡◌, Err, IfOk, List, Ok, Result, refl, rules, ℕ, Answers, Is, file_bytes, opened, Refusal, Stop}
 use Rattle.papi_tools.proofs.FindingLemmas.{failed, leads_on, plain}
 use Rattle.papi_tools.proofs.HoldingLemmas.{one_opened}
 use Rattle.papi_tools.proofs.contents.read_file.Goals as goal

@@ -1,13 +1,6 @@
-use Rattle.std.proofs.Common.{Err, List, Ok, Option, Result, refl, rules, ℕ}
-use Rattle.papi_base.specs.Outside.{Held}
-use Rattle.event_tables.specs.Tables.{ComponentText}
-use Rattle.tool_words.specs.declared.decode.DecodeWords.{DecodeWords}
-use Rattle.papi_tools.specs.Openings.{Answers, ForSome, Is, Leads, file_bytes, opened}
-use Rattle.papi_tools.specs.Contents.{unit_under}
-use Rattle.papi_tools.specs.Decoding.{decode_verdict, decoded_in, decoded_said, decoded_with, shown_in}
-use Rattle.papi_tools.specs.declared.limits.TheConstants.{TABLE_BYTES}
-use Rattle.papi_tools.specs.declared.refusal.Stop.{Stop}
-use Rattle.papi_tools.specs.declared.said.Said.{Said}
+use Rattle.papi_tools.proofs.Words.{Err, List, Ok, Option, Result, refl, rules, ℕ, Held, ComponentText, DecodeWords, Answers, ForSome, Is, Leads}
+use Rattle.papi_tools.proofs.Words.{file_bytes, opened, unit_under, decode_verdict, decoded_in, decoded_said, decoded_with, shown_in, TABLE_BYTES}
+use Rattle.papi_tools.proofs.Words.{Stop, Said}
 use Rattle.papi_tools.proofs.FindingLemmas.{answered, plain, refused_first, so_after}
 use Rattle.papi_tools.proofs.HoldingLemmas.{both_held}
 use Rattle.papi_tools.proofs.decoding.decode_presets.Goals as goal

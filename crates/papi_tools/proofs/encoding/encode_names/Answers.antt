@@ -1,7 +1,4 @@
-use Rattle.std.proofs.Common.{Ok, rules}
-use Rattle.papi_tools.specs.Contents.{unit_under}
-use Rattle.papi_tools.specs.Encoding.{encode_verdict, encoded_said}
-use Rattle.papi_tools.specs.Openings.{opened}
+use Rattle.papi_tools.proofs.Words.{Ok, rules, unit_under, encode_verdict, encoded_said, opened}
 use Rattle.papi_tools.proofs.FindingLemmas.{answered, refused_first}
 use Rattle.papi_tools.proofs.encoding.encode_names.Goals as goal
 

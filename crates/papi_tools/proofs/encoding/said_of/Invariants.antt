@@ -1,8 +1,4 @@
-use Rattle.std.proofs.Common.{◌≡◌, ◌++◌, drop, take}
-use Rattle.std.specs.Prelude.{is_ok}
-use Rattle.std.specs.List.{list_all}
-use Rattle.name_encoder.specs.Names.{names}
-use Rattle.papi_tools.specs.Encoding.{encoding_lines}
+use Rattle.papi_tools.proofs.Words.{◌≡◌, ◌++◌, drop, take, is_ok, list_all, names, encoding_lines}
 use Rattle.papi_tools.proofs.encoding.said_of.Given as goal
 
 abbrev pub invariant-loop-name : goal.invariant-loop-name

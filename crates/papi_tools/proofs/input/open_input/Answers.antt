@@ -1,10 +1,5 @@
-use Rattle.std.proofs.Common.{◌≡◌, Err, Ok, refl, rules}
-use Rattle.thread_registry.specs.Runs.{CanEachCome}
-use Rattle.papi_tools.specs.Contents.{content_under}
-use Rattle.papi_tools.specs.Openings.{Is, opened}
-use Rattle.papi_tools.specs.Running.{CanBeGivenRun, given_with}
-use Rattle.papi_tools.specs.Streams.{streams_under}
-use Rattle.papi_tools.specs.declared.limits.TheConstants.{SCRIPT_BYTES}
+use Rattle.papi_tools.proofs.Words.{◌≡◌, Err, Ok, refl, rules, CanEachCome, content_under, Is, opened, CanBeGivenRun, given_with, streams_under}
+use Rattle.papi_tools.proofs.Words.{SCRIPT_BYTES}
 use Rattle.papi_tools.proofs.FindingLemmas.{ends_after, ends_with, failed, failed_after}
 use Rattle.papi_tools.proofs.HoldingLemmas.{both_held}
 use Rattle.papi_tools.proofs.RunLemmas.{given_is}

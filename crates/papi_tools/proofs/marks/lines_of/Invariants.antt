@@ -1,5 +1,4 @@
-use Rattle.std.proofs.Common.{◌≡◌, ◌++◌, drop}
-use Rattle.papi_tools.specs.Marks.{mark_lines}
+use Rattle.papi_tools.proofs.Words.{◌≡◌, ◌++◌, drop, mark_lines}
 use Rattle.papi_tools.proofs.marks.lines_of.Given as goal
 
 abbrev pub invariant-loop-t : goal.invariant-loop-t

@@ -1,7 +1,4 @@
-use Rattle.std.proofs.Common.{Ok, rules}
-use Rattle.papi_tools.specs.Contents.{unit_under}
-use Rattle.papi_tools.specs.NativeListing.{native_avail_verdict, natives_said}
-use Rattle.papi_tools.specs.Openings.{opened}
+use Rattle.papi_tools.proofs.Words.{Ok, rules, unit_under, native_avail_verdict, natives_said, opened}
 use Rattle.papi_tools.proofs.FindingLemmas.{answered, refused_first}
 use Rattle.papi_tools.proofs.native_listing.list_natives.Goals as goal
 

@@ -1,7 +1,5 @@
-use Rattle.std.proofs.Common.{◌≡◌, Err, Ok, rules}
+use Rattle.papi_tools.proofs.Words.{◌≡◌, Err, Ok, rules, bytes_of, file_bytes, tape_under, CannotRead, TooLarge}
 use Rattle.papi_base.specs.declared.whole.WholeFault.TheVariants as whole
-use Rattle.papi_tools.specs.Openings.{bytes_of, file_bytes, tape_under}
-use Rattle.papi_tools.specs.declared.refusal.Refusal.TheVariants.{CannotRead, TooLarge}
 use Rattle.papi_tools.specs.declared.refusal.Stop.TheVariants.{Refused}
 use Rattle.papi_tools.proofs.FindingLemmas.{failed}
 use Rattle.papi_tools.proofs.ReadingLemmas.{faulty_tape, large_tape, read_on, whole_tape}

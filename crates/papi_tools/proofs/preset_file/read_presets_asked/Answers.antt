@@ -1,7 +1,4 @@
-use Rattle.std.proofs.Common.{◌≡◌, Err, None, Ok, Some, refl, rules}
-use Rattle.papi_tools.specs.Contents.{presets_of}
-use Rattle.papi_tools.specs.Openings.{Is, and_then, file_bytes, opened}
-use Rattle.papi_tools.specs.declared.limits.TheConstants.{TABLE_BYTES}
+use Rattle.papi_tools.proofs.Words.{◌≡◌, Err, None, Ok, Some, refl, rules, presets_of, Is, and_then, file_bytes, opened, TABLE_BYTES}
 use Rattle.papi_tools.proofs.FindingLemmas.{failed, failed_after, leads_on, plain}
 use Rattle.papi_tools.proofs.HoldingLemmas.{same_held}
 use Rattle.papi_tools.proofs.preset_file.read_presets_asked.Goals as goal

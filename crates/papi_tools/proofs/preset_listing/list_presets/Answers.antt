@@ -1,6 +1,4 @@
-use Rattle.std.proofs.Common.{Ok, Some, rules}
-use Rattle.papi_tools.specs.PresetListing.{avail_verdict, presets_said}
-use Rattle.papi_tools.specs.Contents.{after_tables, catalog_under}
+use Rattle.papi_tools.proofs.Words.{Ok, Some, rules, avail_verdict, presets_said, after_tables, catalog_under}
 use Rattle.papi_tools.proofs.FindingLemmas.{answered, refused_first}
 use Rattle.papi_tools.proofs.preset_listing.list_presets.Goals as goal
 

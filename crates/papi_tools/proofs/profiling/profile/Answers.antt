@@ -1,9 +1,5 @@
-use Rattle.std.proofs.Common.{◌≡◌, Err, Ok, arith, rules}
-use Rattle.papi_tools.specs.Contents.{after_tables, catalog_under, map_under, script_under}
-use Rattle.papi_tools.specs.Openings.{opened}
-use Rattle.papi_tools.specs.Profiling.{profil_verdict, profiled_of, profiled_over, profiled_verdict}
-use Rattle.papi_tools.specs.Running.{CanBeGivenRun, given_of}
-use Rattle.papi_tools.specs.declared.refusal.Stop.TheVariants.{Memory}
+use Rattle.papi_tools.proofs.Words.{◌≡◌, Err, Ok, arith, rules, after_tables, catalog_under, map_under, script_under, opened, profil_verdict}
+use Rattle.papi_tools.proofs.Words.{profiled_of, profiled_over, profiled_verdict, CanBeGivenRun, given_of, Memory}
 use Rattle.papi_tools.proofs.FindingLemmas.{failed}
 use Rattle.papi_tools.proofs.HoldingLemmas.{both_held, held_then}
 use Rattle.papi_tools.proofs.ProfilLemmas.{said_told}

@@ -1,5 +1,4 @@
-use Rattle.std.proofs.Common.{◌∙◌, ap}
-use Rattle.script_lines.specs.Scripts.{script_of}
+use Rattle.papi_tools.proofs.Words.{◌∙◌, ap, script_of}
 use Rattle.papi_tools.proofs.region_counts.calls_of.Goals as goal
 
 pub returns-clause-told : goal.returns-clause-told

@@ -1,8 +1,4 @@
-use Rattle.std.proofs.Common.{◌≡◌, ◌∙◌, Err, Ok, ap, refl, rules}
-use Rattle.tool_output.specs.Choosing.{all_taken, chooser_text}
-use Rattle.papi_tools.specs.RegionCounts.{GivenRegions}
-use Rattle.papi_tools.specs.Running.{ran_replies}
-use Rattle.papi_tools.specs.declared.refusal.Stop.TheVariants.{Memory}
+use Rattle.papi_tools.proofs.Words.{◌≡◌, ◌∙◌, Err, Ok, ap, refl, rules, all_taken, chooser_text, GivenRegions, ran_replies, Memory}
 use Rattle.papi_tools.proofs.RegionLemmas.{are_calls, are_events, begun_of, counted_told, nothing_counted, out_of_memory, refused_said, script_is, starved}
 use Rattle.papi_tools.proofs.RunLemmas.{run_shows}
 use Rattle.papi_tools.proofs.region_counts.count.Goals as goal

@@ -1,9 +1,5 @@
-use Rattle.std.proofs.Common.{◌≡◌, Err, List, Ok, arith, refl, rules, ℕ}
-use Rattle.region_report.specs.declared.regions.RegionLine.{RegionLine}
-use Rattle.papi_tools.specs.Contents.{after_tables, catalog_under, regions_in, regions_under}
-use Rattle.papi_tools.specs.Openings.{Answers, Is}
-use Rattle.papi_tools.specs.RegionCounts.{counted_of, regions_said, regions_verdict}
-use Rattle.papi_tools.specs.Running.{CanBeGivenRun, given_of}
+use Rattle.papi_tools.proofs.Words.{◌≡◌, Err, List, Ok, arith, refl, rules, ℕ, RegionLine, after_tables, catalog_under, regions_in, regions_under}
+use Rattle.papi_tools.proofs.Words.{Answers, Is, counted_of, regions_said, regions_verdict, CanBeGivenRun, given_of}
 use Rattle.papi_tools.proofs.FindingLemmas.{failed, failed_after, refused, refused_first, so_after, so_at_end}
 use Rattle.papi_tools.proofs.HoldingLemmas.{both_held, held_then}
 use Rattle.papi_tools.proofs.RunLemmas.{shows_later}

@@ -1,5 +1,4 @@
-use Rattle.std.proofs.Common.{rules, sym}
-use Rattle.std.proofs.lemmas.Option.{get_or_from_slice_get}
+use Rattle.papi_tools.proofs.Words.{rules, sym, get_or_from_slice_get}
 use Rattle.papi_tools.proofs.RegionLemmas.{reading_more}
 use Rattle.papi_tools.proofs.region_counts.readings_of.Goals as goal
 

@@ -1,6 +1,4 @@
-use Rattle.std.proofs.Common.{◌≡◌, take}
-use Rattle.region_report.specs.Spans.{reading_values}
-use Rattle.papi_tools.specs.RegionCounts.{readings_in}
+use Rattle.papi_tools.proofs.Words.{◌≡◌, take, reading_values, readings_in}
 use Rattle.papi_tools.proofs.region_counts.readings_of.Given as goal
 
 abbrev pub invariant-loop-i : goal.invariant-loop-i

@@ -1,6 +1,4 @@
-use Rattle.std.proofs.Common.{◌∙◌, ap, subst}
-use Rattle.call_laws.specs.Spans.{AllFit}
-use Rattle.region_report.specs.Spans.{reading_values}
+use Rattle.papi_tools.proofs.Words.{◌∙◌, ap, subst, AllFit, reading_values}
 use Rattle.papi_tools.proofs.region_counts.said_of.Goals as goal
 
 pub returns-clause-fit : goal.returns-clause-fit

@@ -1,8 +1,5 @@
-use Rattle.std.proofs.Common.{◌≡◌, Err, Ok, arith, rules}
-use Rattle.papi_tools.specs.Contents.{after_tables, catalog_under, script_under}
-use Rattle.papi_tools.specs.Run.{ran_of, ran_verdict, run_verdict}
-use Rattle.papi_tools.specs.Running.{CanBeGivenRun, given_of}
-use Rattle.papi_tools.specs.declared.refusal.Stop.TheVariants.{Memory}
+use Rattle.papi_tools.proofs.Words.{◌≡◌, Err, Ok, arith, rules, after_tables, catalog_under, script_under, ran_of, ran_verdict, run_verdict}
+use Rattle.papi_tools.proofs.Words.{CanBeGivenRun, given_of, Memory}
 use Rattle.papi_tools.proofs.FindingLemmas.{failed}
 use Rattle.papi_tools.proofs.HoldingLemmas.{both_held, held_then}
 use Rattle.papi_tools.proofs.RunLemmas.{run_shows, said_told, shows_later}

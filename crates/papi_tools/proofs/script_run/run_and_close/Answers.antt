@@ -1,5 +1,4 @@
-use Rattle.std.proofs.Common.{Err, IfOk, Ok, Result}
-use Rattle.papi_tools.specs.declared.script_run.RanScript.{RanScript}
+use Rattle.papi_tools.proofs.Words.{Err, IfOk, Ok, Result, RanScript}
 use Rattle.papi_tools.proofs.FaultLemmas.{SomeFault}
 use Rattle.papi_tools.proofs.script_run.run_and_close.Goals as goal
 

@@ -1,5 +1,4 @@
-use Rattle.std.proofs.Common.{arith, refl, rules}
-use Rattle.papi_tools.specs.Running.{GivenRun, ran_notes}
+use Rattle.papi_tools.proofs.Words.{arith, refl, rules, GivenRun, ran_notes}
 use Rattle.papi_tools.proofs.RunLemmas.{counted, faulty, nothing_ran, planned_from, replied, sources_kept, tells}
 use Rattle.papi_tools.proofs.TellingLemmas.{none_begun}
 use Rattle.papi_tools.proofs.script_run.run_script.Goals as goal

@@ -1,8 +1,4 @@
-use Rattle.std.proofs.Common.{◌∙◌, ap, rules, sym}
-use Rattle.std.proofs.lemmas.List.{drop_all}
-use Rattle.std.proofs.lemmas.Option.{get_or_from_slice_get}
-use Rattle.std.specs.Prelude.{find}
-use Rattle.papi_tools.specs.Soaking.{stops, values_at}
+use Rattle.papi_tools.proofs.Words.{◌∙◌, ap, rules, sym, drop_all, get_or_from_slice_get, find, stops, values_at}
 use Rattle.papi_tools.proofs.SoakLemmas.{found_here, sought_on}
 use Rattle.papi_tools.proofs.soak_totals.stop_values.Goals as goal
 

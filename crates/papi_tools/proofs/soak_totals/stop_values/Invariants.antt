@@ -1,6 +1,4 @@
-use Rattle.std.proofs.Common.{◌≡◌, drop}
-use Rattle.std.specs.Prelude.{find}
-use Rattle.papi_tools.specs.Soaking.{stops}
+use Rattle.papi_tools.proofs.Words.{◌≡◌, drop, find, stops}
 use Rattle.papi_tools.proofs.soak_totals.stop_values.Given as goal
 
 abbrev pub invariant-loop-i : goal.invariant-loop-i

@@ -1,6 +1,4 @@
-use Rattle.std.proofs.Common.{◌≡◌, map}
-use Rattle.std.specs.List.{range_with_len}
-use Rattle.papi_tools.specs.Soaking.{total_between}
+use Rattle.papi_tools.proofs.Words.{◌≡◌, map, range_with_len, total_between}
 use Rattle.papi_tools.proofs.soak_totals.totals_between.Given as goal
 
 abbrev pub invariant-loop-thread : goal.invariant-loop-thread

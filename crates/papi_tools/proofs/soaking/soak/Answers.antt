@@ -1,6 +1,4 @@
-use Rattle.std.proofs.Common.{◌≡◌, Err, rules}
-use Rattle.papi_tools.specs.Soaking.{soaked}
-use Rattle.papi_tools.specs.declared.refusal.Stop.TheVariants.{Memory}
+use Rattle.papi_tools.proofs.Words.{◌≡◌, Err, rules, soaked, Memory}
 use Rattle.papi_tools.proofs.FindingLemmas.{some_openings}
 use Rattle.papi_tools.proofs.SettlingLemmas.{text_shows}
 use Rattle.papi_tools.proofs.SoakLemmas.{run_comes, run_refused, said_told}

@@ -1,9 +1,4 @@
-use Rattle.std.proofs.Common.{◌∙◌, Some, ap, arith, rules}
-use Rattle.std.proofs.lemmas.List.Elements.{All-push}
-use Rattle.papi_base.specs.declared.outside.Ending.TheVariants.{End}
-use Rattle.stream_reader.specs.Occurs.{occurs_of}
-use Rattle.stream_reader.specs.Reader.{coming}
-use Rattle.thread_session.specs.SessionView.{IsFresh}
+use Rattle.papi_tools.proofs.Words.{◌∙◌, Some, ap, arith, rules, All-push, End, occurs_of, coming, IsFresh}
 use Rattle.papi_tools.proofs.SoakLemmas.{all_readers, reader_more}
 use Rattle.papi_tools.proofs.StreamLemmas.{count}
 use Rattle.papi_tools.proofs.soaking.soak_readers.Goals as goal

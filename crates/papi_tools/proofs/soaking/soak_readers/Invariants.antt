@@ -1,9 +1,4 @@
-use Rattle.std.proofs.Common.{◌≡◌, All, Some, map, vec_capacity, vec_len}
-use Rattle.std.specs.List.{range_with_len}
-use Rattle.stream_reader.specs.Reader.{coming}
-use Rattle.thread_session.specs.SessionView.{IsFresh}
-use Rattle.papi_tools.specs.Soaking.{soak_tape}
-use Rattle.papi_tools.specs.Streams.{stream_of}
+use Rattle.papi_tools.proofs.Words.{◌≡◌, All, Some, map, vec_capacity, vec_len, range_with_len, coming, IsFresh, soak_tape, stream_of}
 use Rattle.papi_tools.proofs.soaking.soak_readers.Given as goal
 
 abbrev pub invariant-loop-thread : goal.invariant-loop-thread

@@ -1,9 +1,4 @@
-use Rattle.std.proofs.Common.{◌≡◌, None, Some, arith, rules, vec_len, true}
-use Rattle.std.proofs.lemmas.List.{map-append}
-use Rattle.std.proofs.lemmas.List.Elements.{All-push}
-use Rattle.stream_reader.specs.Reader.{coming, new_view}
-use Rattle.thread_session.specs.SessionView.{IsFresh}
-use Rattle.papi_tools.specs.Streams.{empty_stream}
+use Rattle.papi_tools.proofs.Words.{◌≡◌, None, Some, arith, rules, vec_len, true, map-append, All-push, coming, new_view, IsFresh, empty_stream}
 use Rattle.papi_tools.proofs.StreamLemmas.{one_empty_more, sources_in-append}
 use Rattle.papi_tools.proofs.streams.add_empty.Goals as goal
 

@@ -1,7 +1,5 @@
-use Rattle.std.proofs.Common.{◌≡◌, ◌≤◌, ◌-◌, ◌++◌, All, None, Some, map, replicate, vec_capacity, vec_len, true}
-use Rattle.stream_reader.specs.Reader.{coming, new_view}
-use Rattle.thread_session.specs.SessionView.{IsFresh}
-use Rattle.papi_tools.specs.Streams.{empty_stream, sources_in}
+use Rattle.papi_tools.proofs.Words.{◌≡◌, ◌≤◌, ◌-◌, ◌++◌, All, None, Some, map, replicate, vec_capacity, vec_len, true, coming, new_view, IsFresh}
+use Rattle.papi_tools.proofs.Words.{empty_stream, sources_in}
 use Rattle.papi_tools.proofs.streams.add_empty.Given as goal
 
 abbrev pub invariant-loop-readers : goal.invariant-loop-readers

@@ -1,6 +1,4 @@
-use Rattle.std.proofs.Common.{◌≡◌, ◌∙◌, arith, map-id, rules, sym}
-use Rattle.std.proofs.lemmas.Iterator.Adapters.{YieldsList-from_vec}
-use Rattle.std.proofs.lemmas.Iterator.Consumers.{YieldsList-end}
+use Rattle.papi_tools.proofs.Words.{◌≡◌, ◌∙◌, arith, map-id, rules, sym, YieldsList-from_vec, YieldsList-end}
 use Rattle.papi_tools.proofs.StreamLemmas.{by_either, failed_more, sources_in-append}
 use Rattle.papi_tools.proofs.streams.close_readers.Goals as goal
 

@@ -1,6 +1,4 @@
-use Rattle.std.proofs.Common.{◌≡◌, ◌≤◌, ◌-◌}
-use Rattle.papi_base.specs.Outside.{Rose}
-use Rattle.papi_tools.specs.Streams.{SomeFailed, sources_in}
+use Rattle.papi_tools.proofs.Words.{◌≡◌, ◌≤◌, ◌-◌, Rose, SomeFailed, sources_in}
 use Rattle.papi_tools.proofs.streams.close_readers.Given as goal
 
 abbrev pub invariant-loop-reader : goal.invariant-loop-reader

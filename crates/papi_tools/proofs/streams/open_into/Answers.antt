@@ -1,9 +1,4 @@
-use Rattle.std.proofs.Common.{◌≡◌, [], ap, arith, refl, rules}
-use Rattle.std.proofs.lemmas.List.{drop_all}
-use Rattle.std.proofs.lemmas.List.Elements.{All-push}
-use Rattle.stream_reader.specs.Reader.{tape_of}
-use Rattle.thread_session.specs.SessionView.{IsFresh}
-use Rattle.papi_tools.specs.Streams.{IsUnread}
+use Rattle.papi_tools.proofs.Words.{◌≡◌, [], ap, arith, refl, rules, drop_all, All-push, tape_of, IsFresh, IsUnread}
 use Rattle.papi_tools.proofs.HoldingLemmas.{both_held, one_opened, same_held}
 use Rattle.papi_tools.proofs.OpeningLemmas.{all_open, more_at, start, stopped_at, unread}
 use Rattle.papi_tools.proofs.StreamLemmas.{no_items, sources_in-append}

@@ -1,7 +1,4 @@
-use Rattle.std.proofs.Common.{◌≡◌, ◌≤◌, ◌+◌, All, drop, vec_capacity, vec_len}
-use Rattle.thread_session.specs.SessionView.{IsFresh}
-use Rattle.papi_tools.specs.Looking.{StaysHeld}
-use Rattle.papi_tools.specs.Streams.{IsUnread, sources_in}
+use Rattle.papi_tools.proofs.Words.{◌≡◌, ◌≤◌, ◌+◌, All, drop, vec_capacity, vec_len, IsFresh, StaysHeld, IsUnread, sources_in}
 use Rattle.papi_tools.proofs.OpeningLemmas.{AreOpen}
 use Rattle.papi_tools.proofs.streams.open_into.Given as goal
 

@@ -1,6 +1,4 @@
-use Rattle.std.proofs.Common.{Ok, arith, refl, vec_len}
-use Rattle.papi_tools.specs.Openings.{tapes_under}
-use Rattle.papi_tools.specs.Streams.{streams_of}
+use Rattle.papi_tools.proofs.Words.{Ok, arith, refl, vec_len, tapes_under, streams_of}
 use Rattle.papi_tools.proofs.FindingLemmas.{failed}
 use Rattle.papi_tools.proofs.HoldingLemmas.{held_then, same_held}
 use Rattle.papi_tools.proofs.LookingLemmas.{stopped_then}

@@ -1,9 +1,5 @@
-use Rattle.std.proofs.Common.{◌≡◌, Err, Ok, refl, rules}
-use Rattle.std.specs.Prelude.{option_copied}
-use Rattle.component_table.specs.Catalogs.{catalog_of}
-use Rattle.papi_tools.specs.Contents.{after_presets, catalog_under, catalog_with, presets_asked, unit_under}
-use Rattle.papi_tools.specs.Openings.{Is, opened}
-use Rattle.papi_tools.specs.declared.refusal.Stop.TheVariants.{Memory}
+use Rattle.papi_tools.proofs.Words.{◌≡◌, Err, Ok, refl, rules, option_copied, catalog_of, after_presets, catalog_under, catalog_with, presets_asked}
+use Rattle.papi_tools.proofs.Words.{unit_under, Is, opened, Memory}
 use Rattle.papi_tools.proofs.FindingLemmas.{failed, failed_after, leads_on, plain}
 use Rattle.papi_tools.proofs.HoldingLemmas.{both_held}
 use Rattle.papi_tools.proofs.tables.read_catalog.Goals as goal

@@ -1,6 +1,4 @@
-use Rattle.std.proofs.Common.{map, refl, string_bytes}
-use Rattle.papi_tools.specs.Verdict.{verdict_for}
-use Rattle.tool_words.specs.Form.{form}
+use Rattle.papi_tools.proofs.Words.{map, refl, string_bytes, verdict_for, form}
 use Rattle.papi_tools.proofs.HoldingLemmas.{same_held}
 use Rattle.papi_tools.proofs.SettlingLemmas.{refused_as, refused_shows, settled_as, settled_shows, starved_as}
 use Rattle.papi_tools.proofs.top.said_of.Goals as goal

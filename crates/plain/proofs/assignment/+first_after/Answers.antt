@@ -1,9 +1,6 @@
 -- the counters are tried in turn
-use Rattle.std.proofs.Common.{◌≡◌, ◌∙◌, ◌+◌, ◌-◌, ◌∷◌, ◌++◌, ℕ, true, false, List, [], Some, None, sym, ap, ap₂, arith, drop, get_or, length, take, length-drop}
-use Rattle.std.proofs.lemmas.Bool.{eqb-true, eqb-false}
-use Rattle.std.proofs.lemmas.List.{take_all}
-use Rattle.std.proofs.lemmas.Nat.Bits.{shr_and_one}
-use Rattle.counter_alloc.specs.Listing.{choices}
+use Rattle.plain.proofs.Words.{◌≡◌, ◌∙◌, ◌+◌, ◌-◌, ◌∷◌, ◌++◌, ℕ, true, false, List, [], Some, None, sym, ap, ap₂, arith, drop, get_or, length, take}
+use Rattle.plain.proofs.Words.{length-drop, eqb-true, eqb-false, take_all, shr_and_one, choices}
 use Rattle.plain.proofs.Choices.{first_among, first_of_masks, first_of_none, first_with, found_first, member_on, members_on, not_member_on}
 use Rattle.plain.proofs.assignment.+first_after.Goals as goal
 use Rattle.plain.proofs.assignment.+first_after.Goals.{then-mask-counter-eq1+in_default, else-mask-counter-eq1}

@@ -1,6 +1,5 @@
 -- no choice was found with the counters so far
-use Rattle.std.proofs.Common.{◌≡◌, drop, length}
-use Rattle.counter_alloc.specs.Listing.{choices}
+use Rattle.plain.proofs.Words.{◌≡◌, drop, length, choices}
 use Rattle.plain.proofs.Choices.{first_among, first_with, members_on}
 use Rattle.plain.proofs.assignment.+first_after.Given as goal
 

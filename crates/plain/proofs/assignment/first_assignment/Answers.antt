@@ -1,5 +1,4 @@
-use Rattle.std.proofs.Common.{◌∙◌, ap}
-use Rattle.counter_alloc.specs.Listing.{choices}
+use Rattle.plain.proofs.Words.{◌∙◌, ap, choices}
 use Rattle.plain.proofs.Choices.{first_is_least, first_with}
 use Rattle.plain.proofs.assignment.first_assignment.Goals as goal
 

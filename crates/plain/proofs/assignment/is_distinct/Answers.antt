@@ -1,8 +1,5 @@
 -- the counter at i comes at no later place
-use Rattle.std.proofs.Common.{◌∙◌, ◌==◌, sym, arith, get_or, true, false}
-use Rattle.std.proofs.lemmas.Bool.{eq-eqb, ne_eqb}
-use Rattle.std.proofs.lemmas.Option.{get_or_from_slice_get}
-use Rattle.papi_base.proofs.Steps.{any_here, any_later}
+use Rattle.plain.proofs.Words.{◌∙◌, ◌==◌, sym, arith, get_or, true, false, eq-eqb, ne_eqb, get_or_from_slice_get, any_here, any_later}
 use Rattle.plain.proofs.Choices.{any_end, distinct_by}
 use Rattle.plain.proofs.assignment.is_distinct.Goals as goal
 

@@ -1,7 +1,5 @@
 -- the places from i on decide, and of those after it the ones from j on
-use Rattle.std.proofs.Common.{◌≡◌, ◌+◌, ◌==◌, drop, get_or}
-use Rattle.std.specs.List.{list_any}
-use Rattle.counter_alloc.specs.Listing.{all_distinct}
+use Rattle.plain.proofs.Words.{◌≡◌, ◌+◌, ◌==◌, drop, get_or, list_any, all_distinct}
 use Rattle.plain.proofs.assignment.is_distinct.Given as goal
 
 abbrev pub invariant-loop-j : goal.invariant-loop-j

@@ -1,7 +1,5 @@
-use Rattle.std.proofs.Common.{ℕ, List, ◌∙◌, ap, ap₂, length, take}
-use Rattle.counter_alloc.specs.Assignments.{counters_of}
+use Rattle.plain.proofs.Words.{ℕ, List, ◌∙◌, ap, ap₂, length, take, counters_of, Blame}
 use Rattle.counter_alloc.specs.BlameOf as BlameOf
-use Rattle.counter_alloc.specs.declared.matching.Blame.{Blame}
 use Rattle.plain.proofs.blame.blame_by_sets.Goals as goal
 
 -- a set of places with the counters that it is allowed

@@ -1,7 +1,5 @@
 -- a place that is no member
-use Rattle.std.proofs.Common.{◌≡◌, ◌∙◌, ◌+◌, ◌-◌, ℕ, sym, ap, arith, drop}
-use Rattle.std.proofs.lemmas.Nat.Bits.{shr_and_one}
-use Rattle.counter_alloc.specs.Assignments.{counters_from}
+use Rattle.plain.proofs.Words.{◌≡◌, ◌∙◌, ◌+◌, ◌-◌, ℕ, sym, ap, arith, drop, shr_and_one, counters_from}
 use Rattle.plain.proofs.Sets.{skipped}
 use Rattle.plain.proofs.blame.counters_of.Goals as goal
 

@@ -1,6 +1,5 @@
 -- the counters of the places from here on
-use Rattle.std.proofs.Common.{◌≡◌, drop}
-use Rattle.counter_alloc.specs.Assignments.{counters_from}
+use Rattle.plain.proofs.Words.{◌≡◌, drop, counters_from}
 use Rattle.plain.proofs.blame.counters_of.Given as goal
 
 abbrev pub invariant-loop-place : goal.invariant-loop-place

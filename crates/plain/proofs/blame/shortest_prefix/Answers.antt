@@ -1,6 +1,5 @@
 -- the prefixes are tried in turn
-use Rattle.std.proofs.Common.{◌∙◌, sym, ap, true, false}
-use Rattle.std.specs.Prelude.{is_some}
+use Rattle.plain.proofs.Words.{◌∙◌, sym, ap, true, false, is_some}
 use Rattle.plain.proofs.Sets.{all_prefixes, next_prefix}
 use Rattle.plain.proofs.blame.shortest_prefix.Goals as goal
 

@@ -1,5 +1,4 @@
-use Rattle.std.proofs.Common.{◌≡◌, ◌∙◌, Bool, true, false, sym, arith}
-use Rattle.multiplex.specs.Turns.{Turns, has_turn}
+use Rattle.plain.proofs.Words.{◌≡◌, ◌∙◌, Bool, true, false, sym, arith, Turns, has_turn}
 use Rattle.plain.proofs.Sums.{tick_more}
 use Rattle.plain.proofs.counting.active.Goals as goal
 use Rattle.plain.proofs.counting.active.Goals.{then-runs_at, else-runs_at}

@@ -1,6 +1,5 @@
 -- the ticks so far, and what is left
-use Rattle.std.proofs.Common.{◌≡◌, ◌≤◌, ◌+◌}
-use Rattle.multiplex.specs.Turns.{Turns, has_turn}
+use Rattle.plain.proofs.Words.{◌≡◌, ◌≤◌, ◌+◌, Turns, has_turn}
 use Rattle.plain.proofs.Sums.{ticks_left}
 use Rattle.plain.proofs.counting.active.Given as goal
 

@@ -1,6 +1,4 @@
-use Rattle.std.proofs.Common.{◌∙◌, ◌+◌, ap, arith, false, sym}
-use Rattle.papi_base.specs.declared.occurrence.Occ.{Occ}
-use Rattle.session_model.specs.Account.{time_after}
+use Rattle.plain.proofs.Words.{◌∙◌, ◌+◌, ap, arith, false, sym, Occ, time_after}
 use Rattle.plain.proofs.Sums.{last_taken}
 use Rattle.plain.proofs.counting.clock.Goals as goal
 

@@ -1,6 +1,4 @@
-use Rattle.std.proofs.Common.{None, arith}
-use Rattle.papi_base.specs.Weight.{weight_of}
-use Rattle.session_model.specs.Counts.{along}
+use Rattle.plain.proofs.Words.{None, arith, weight_of, along}
 use Rattle.plain.proofs.Sums.{left_more}
 use Rattle.plain.proofs.counting.count.Goals as goal
 

@@ -1,7 +1,5 @@
 -- the sum so far, and what is left
-use Rattle.std.proofs.Common.{◌≡◌, ◌≤◌, ◌+◌, ◌*◌, None}
-use Rattle.papi_base.specs.Weight.{weight_of}
-use Rattle.session_model.specs.Counts.{along}
+use Rattle.plain.proofs.Words.{◌≡◌, ◌≤◌, ◌+◌, ◌*◌, None, weight_of, along}
 use Rattle.plain.proofs.Sums.{left}
 use Rattle.plain.proofs.counting.count.Given as goal
 

@@ -1,8 +1,5 @@
-use Rattle.std.proofs.Common.{◌≡◌, ◌∙◌, ◌-◌, ℕ, List, None, true, false, ap, arith, get_or, sym}
-use Rattle.std.proofs.lemmas.Option.{slice_get-get_or}
-use Rattle.papi_base.specs.declared.occurrence.Occ.{Occ}
-use Rattle.multiplex.specs.Turns.{Turns, has_turn, weight_in_turn}
-use Rattle.session_model.specs.Counts.{along}
+use Rattle.plain.proofs.Words.{◌≡◌, ◌∙◌, ◌-◌, ℕ, List, None, true, false, ap, arith, get_or, sym, slice_get-get_or, Occ, Turns, has_turn}
+use Rattle.plain.proofs.Words.{weight_in_turn, along}
 use Rattle.plain.proofs.Sums.{left_more}
 use Rattle.plain.proofs.Turning.{in_turn_at}
 use Rattle.plain.proofs.counting.count_in_turn.Goals as goal

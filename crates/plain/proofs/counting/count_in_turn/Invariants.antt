@@ -1,7 +1,5 @@
 -- the sum so far, and what is left
-use Rattle.std.proofs.Common.{◌≡◌, ◌≤◌, ◌+◌, ◌*◌, None, ℕ, List}
-use Rattle.multiplex.specs.Turns.{Turns, weight_in_turn}
-use Rattle.session_model.specs.Counts.{along}
+use Rattle.plain.proofs.Words.{◌≡◌, ◌≤◌, ◌+◌, ◌*◌, None, ℕ, List, Turns, weight_in_turn, along}
 use Rattle.plain.proofs.Sums.{left}
 use Rattle.plain.proofs.counting.count_in_turn.Given as goal
 

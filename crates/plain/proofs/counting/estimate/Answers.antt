@@ -1,5 +1,4 @@
-use Rattle.std.proofs.Common.{◌∙◌, ◌-◌, ◌*◌, ◌/◌, ap, sym}
-use Rattle.multiplex.specs.Turns.{estimate}
+use Rattle.plain.proofs.Words.{◌∙◌, ◌-◌, ◌*◌, ◌/◌, ap, sym, estimate}
 use Rattle.plain.proofs.Turning.{estimate_is, estimate_some}
 use Rattle.plain.proofs.counting.estimate.Goals as goal
 

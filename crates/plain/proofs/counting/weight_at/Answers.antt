@@ -1,7 +1,4 @@
-use Rattle.std.proofs.Common.{◌∙◌, None, Some, ap, false, get_or, sym, take}
-use Rattle.std.proofs.lemmas.Option.{slice_get-get_or}
-use Rattle.papi_base.specs.declared.occurrence.Occ.{Occ}
-use Rattle.papi_base.specs.Weight.{weight_of}
+use Rattle.plain.proofs.Words.{◌∙◌, None, Some, ap, false, get_or, sym, take, slice_get-get_or, Occ, weight_of}
 use Rattle.plain.proofs.Sums.{along_at, last_is}
 use Rattle.plain.proofs.counting.weight_at.Goals as goal
 

@@ -1,11 +1,7 @@
 -- the last token is the root of the tree
-use Rattle.std.proofs.Common.{◌≡◌, ◌∙◌, ◌<◌, ◌≤◌, ◌^◌, ◌-◌, ◌++◌, ℕ, List, Some, FitsSigned, ap, ap₂, arith, get_or, length, length-take-le, of_z, pos, rules, slice_get, sym, take, to_z, to_z-of_z, w64}
-use Rattle.std.specs.Prelude.{slice_index_or}
-use Rattle.std.proofs.lemmas.Int.{to_z_pos}
-use Rattle.std.proofs.lemmas.Option.{slice_get-get_or}
-use Rattle.postfix_rules.specs.Trees.{spelling}
-use Rattle.postfix_rules.specs.Values.{applied, tree_value}
-use Rattle.postfix_rules.specs.declared.token.Token.{Token}
+use Rattle.plain.proofs.Words.{◌≡◌, ◌∙◌, ◌<◌, ◌≤◌, ◌^◌, ◌-◌, ◌++◌, ℕ, List, Some, FitsSigned, ap, ap₂, arith, get_or, length, length-take-le, of_z}
+use Rattle.plain.proofs.Words.{pos, rules, slice_get, sym, take, to_z, to_z-of_z, w64, slice_index_or, to_z_pos, slice_get-get_or, spelling, applied}
+use Rattle.plain.proofs.Words.{tree_value, Token}
 use Rattle.postfix_rules.specs.declared.token.Token.TheVariants as token
 use Rattle.plain.proofs.LastTokens.{last_apart, last_constant, last_native, last_operator, left_apart, length_before, node_value, none_before}
 use Rattle.plain.proofs.formula.+value_before.Goals as goal

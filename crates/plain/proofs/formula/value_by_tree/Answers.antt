@@ -1,6 +1,4 @@
-use Rattle.std.proofs.Common.{◌≡◌, ◌∙◌, List, [], ap, sym, slice_get, arith, length, of_z, rules, to_z, w64}
-use Rattle.std.proofs.lemmas.List.{take_all}
-use Rattle.postfix_rules.specs.declared.token.Token.{Token}
+use Rattle.plain.proofs.Words.{◌≡◌, ◌∙◌, List, [], ap, sym, slice_get, arith, length, of_z, rules, to_z, w64, take_all, Token}
 use Rattle.plain.proofs.LastTokens.{small_constants}
 use Rattle.plain.proofs.formula.value_by_tree.Goals as goal
 

@@ -1,7 +1,4 @@
-use Rattle.std.proofs.Common.{rules, ◌≡◌, ◌∙◌, w64, to_z-of_z, FitsSigned, refl}
-use Rattle.std.specs.Int.{int_wrapping_div}
-use Rattle.std.proofs.lemmas.Int.{wraps}
-use Rattle.postfix_rules.proofs.Divided.{div-wrapped, zero-bits}
+use Rattle.plain.proofs.Words.{rules, ◌≡◌, ◌∙◌, w64, to_z-of_z, FitsSigned, refl, int_wrapping_div, wraps, div-wrapped, zero-bits}
 use Rattle.plain.proofs.formula.value_of.Goals as goal
 
 pub returns-in-Plus : goal.returns-in-Plus

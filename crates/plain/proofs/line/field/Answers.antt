@@ -1,8 +1,6 @@
-use Rattle.std.proofs.Common.{◌≡◌, ◌∙◌, List, [], ℕ, Bor, Option, Some, None, ap, refl, rules, tests}
-use Rattle.std.specs.Option.{option_map, unwrap_or}
+use Rattle.plain.proofs.Words.{◌≡◌, ◌∙◌, List, [], ℕ, Bor, Option, Some, None, ap, refl, rules, tests, option_map, unwrap_or, nth_from_yields_List}
+use Rattle.plain.proofs.Words.{YieldsList-from_slice_split}
 use Rattle.std.specs.Prelude.{◌==◌}
-use Rattle.std.proofs.lemmas.Iterator.Consumers.{nth_from_yields_List}
-use Rattle.std.proofs.lemmas.Iterator.Splits.{YieldsList-from_slice_split}
 use Rattle.plain.proofs.line.field.Goals as goal
 
 -- the text of a field, if the one that stands for a missing field is empty

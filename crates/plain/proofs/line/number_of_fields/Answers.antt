@@ -1,7 +1,5 @@
-use Rattle.std.proofs.Common.{rules, tests}
+use Rattle.plain.proofs.Words.{rules, tests, count_from_yields_List, YieldsList-from_slice_split}
 use Rattle.std.specs.Prelude.{◌==◌}
-use Rattle.std.proofs.lemmas.Iterator.Consumers.{count_from_yields_List}
-use Rattle.std.proofs.lemmas.Iterator.Splits.{YieldsList-from_slice_split}
 use Rattle.plain.proofs.line.number_of_fields.Goals as goal
 
 pub returns : goal.returns

@@ -1,7 +1,4 @@
-use Rattle.std.proofs.Common.{◌∙◌, ◌<◌, ◌≢◌, ℕ, List, length, get_or, sym, arith, refl, false}
-use Rattle.std.specs.Prelude.{nat_le}
-use Rattle.std.proofs.lemmas.Bool.{le-leb, lt-leb, and_right}
-use Rattle.std.proofs.lemmas.Bool.Decides.{nat_tests}
+use Rattle.plain.proofs.Words.{◌∙◌, ◌<◌, ◌≢◌, ℕ, List, length, get_or, sym, arith, refl, false, nat_le, le-leb, lt-leb, and_right, nat_tests}
 use Rattle.plain.proofs.Numbers.{decimal_empty, decimal_is, decimal_other, decimal_zero}
 use Rattle.plain.proofs.numeral.decimal.Goals as goal
 use Rattle.plain.proofs.numeral.decimal.Goals.{then-is_empty-via-then-is_empty, then-is_empty-via-else-is_empty+then-text-eq48}

@@ -1,5 +1,4 @@
-use Rattle.std.proofs.Common.{sym}
-use Rattle.stream_reader.proofs.Hexadecimals.{hex-long, hex-short}
+use Rattle.plain.proofs.Words.{sym, hex-long, hex-short}
 use Rattle.plain.proofs.Numbers.{hex_is}
 use Rattle.plain.proofs.numeral.hexadecimal.Goals as goal
 use Rattle.plain.proofs.numeral.hexadecimal.Goals.{then-text-few-via-then-text-few, then-text-few-via-else-text-few+then-many-text}

@@ -1,9 +1,5 @@
-use Rattle.std.proofs.Common.{◌≡◌, ◌∙◌, ◌*◌, ◌<◌, ℕ, List, get_or, length, take, sym, ap, arith, min, refl}
-use Rattle.std.specs.Char.{digit_value, is_digit}
-use Rattle.std.specs.Str.Parse.{digits_value}
-use Rattle.std.proofs.lemmas.Bool.{lt-ltb}
-use Rattle.std.proofs.lemmas.Int.Digits.{digits_value_more}
-use Rattle.std.proofs.lemmas.List.Folds.{list_all_more}
+use Rattle.plain.proofs.Words.{◌≡◌, ◌∙◌, ◌*◌, ◌<◌, ℕ, List, get_or, length, take, sym, ap, arith, min, refl, digit_value, is_digit, digits_value}
+use Rattle.plain.proofs.Words.{lt-ltb, digits_value_more, list_all_more}
 use Rattle.plain.proofs.Numbers.{one_more, top}
 use Rattle.plain.proofs.numeral.number.Goals as goal
 

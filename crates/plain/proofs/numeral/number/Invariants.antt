@@ -1,8 +1,5 @@
 -- the digits so far, and their number
-use Rattle.std.proofs.Common.{◌≡◌, ◌-◌, ◌^◌, true, min, take}
-use Rattle.std.specs.Char.{is_digit}
-use Rattle.std.specs.List.{list_all}
-use Rattle.std.specs.Str.Parse.{digits_value}
+use Rattle.plain.proofs.Words.{◌≡◌, ◌-◌, ◌^◌, true, min, take, is_digit, list_all, digits_value}
 use Rattle.plain.proofs.numeral.number.Given as goal
 
 abbrev pub invariant-loop-byte : goal.invariant-loop-byte

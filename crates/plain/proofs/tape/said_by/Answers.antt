@@ -1,12 +1,6 @@
-use Rattle.std.proofs.Common.{◌≡◌, ◌∙◌, ◌+◌, ◌<◌, ℕ, Bool, false, List, [], Bor, ap, arith, drop, length, map, nat_lt, refl, sym}
-use Rattle.std.proofs.lemmas.Bool.Decides.{nat_tests}
+use Rattle.plain.proofs.Words.{◌≡◌, ◌∙◌, ◌+◌, ◌<◌, ℕ, Bool, false, List, [], Bor, ap, arith, drop, length, map, nat_lt, refl, sym, nat_tests, Coming}
+use Rattle.plain.proofs.Words.{Dry, LineStart, judged, tape_lines, after, is_bad, occurs_of, flag-small}
 use Rattle.std.proofs.lemmas.List.{append-nil, get_or-map, length-map}
-use Rattle.papi_base.specs.Streams.{Coming, Dry}
-use Rattle.stream_reader.specs.declared.line.LineStart.{LineStart}
-use Rattle.stream_reader.specs.Judged.{judged}
-use Rattle.stream_reader.specs.Lines.{tape_lines}
-use Rattle.stream_reader.specs.Occurs.{after, is_bad, occurs_of}
-use Rattle.stream_reader.proofs.Taking.{flag-small}
 use Rattle.plain.proofs.Pieces.{IsLineAt, before, line_is, line_of, not_bad, passed_by, said_at_empty, said_at_end, said_from, says_bad, says_on, within_stream}
 use Rattle.plain.proofs.tape.said_by.Goals as goal
 use Rattle.plain.proofs.tape.said_by.Goals.{else-not-ended-via-then-not-ended+else-is_empty, else-not-ended-via-else-not-ended}

@@ -1,8 +1,5 @@
 -- what was said so far, and what is left
-use Rattle.std.proofs.Common.{◌≡◌, ◌≤◌, ◌+◌, drop, map}
-use Rattle.papi_base.specs.declared.outside.Ending.TheVariants.{End}
-use Rattle.stream_reader.specs.declared.limits.TheConstants.{LARGEST_STREAM}
-use Rattle.stream_reader.specs.Occurs.{occurs_of}
+use Rattle.plain.proofs.Words.{◌≡◌, ◌≤◌, ◌+◌, drop, map, End, LARGEST_STREAM, occurs_of}
 use Rattle.plain.proofs.Pieces.{before, said_from}
 use Rattle.plain.proofs.tape.said_by.Given as goal
 

@@ -1,6 +1,4 @@
-use Rattle.std.proofs.Common.{◌≤◌, ◌∙◌, length, sym, arith}
-use Rattle.std.proofs.lemmas.List.Sums.{prefix_len_is}
-use Rattle.papi_base.specs.Numerals.{is_digit}
+use Rattle.postfix_rules.proofs.Words.{◌≤◌, ◌∙◌, length, sym, arith, prefix_len_is, is_digit}
 use Rattle.postfix_rules.proofs.infix_part.digits_in.Goals as goal
 
 pub returns-then-not-is_digit : goal.returns-then-not-is_digit

@@ -1,5 +1,4 @@
-use Rattle.std.proofs.Common.{◌≡◌, ℕ, ◌<◌, true, get_or}
-use Rattle.papi_base.specs.Numerals.{is_digit}
+use Rattle.postfix_rules.proofs.Words.{◌≡◌, ℕ, ◌<◌, true, get_or, is_digit}
 use Rattle.postfix_rules.proofs.infix_part.digits_in.Given as goal
 
 abbrev pub invariant-loop-i : goal.invariant-loop-i

@@ -1,9 +1,5 @@
-use Rattle.std.proofs.Common.{◌≡◌, ◌∙◌, ◌∷◌, ◌<◌, ℕ, false, true, List, length, drop, sym, ap, subst, arith, slice_index}
-use Rattle.std.specs.List.{take_while}
-use Rattle.papi_base.specs.Numerals.{is_digit}
-use Rattle.table_rows.specs.Texts.{Text}
-use Rattle.postfix_rules.specs.InfixTokens.{InfixPart, in_infix, infix_from, sign_part}
-use Rattle.postfix_rules.specs.Tokens.{constant_part, native_part}
+use Rattle.postfix_rules.proofs.Words.{◌≡◌, ◌∙◌, ◌∷◌, ◌<◌, ℕ, false, true, List, length, drop, sym, ap, subst, arith, slice_index, take_while}
+use Rattle.postfix_rules.proofs.Words.{is_digit, Text, InfixPart, in_infix, infix_from, sign_part, constant_part, native_part}
 use Rattle.postfix_rules.proofs.InfixParts.{constant-first, digits-numeral, front-first, letter-first, native-first, sign-first, some-digits}
 use Rattle.postfix_rules.proofs.infix_part.first_part.Goals as goal
 use Rattle.postfix_rules.proofs.infix_part.first_part.Goals.{else-text-eq78-via-then-text-eq78+else-digits-gt0, else-text-eq78-via-else-text-eq78}

@@ -1,5 +1,4 @@
-use Rattle.std.proofs.Common.{subst}
-use Rattle.postfix_rules.specs.Judged.{ReadsToken}
+use Rattle.postfix_rules.proofs.Words.{subst, ReadsToken}
 use Rattle.postfix_rules.proofs.InfixParts.{refused-part}
 use Rattle.postfix_rules.proofs.infix_part.in_infix_order.Goals as goal
 

@@ -1,5 +1,4 @@
-use Rattle.std.proofs.Common.{◌≡◌, false, drop}
-use Rattle.postfix_rules.specs.InfixTokens.{infix_from}
+use Rattle.postfix_rules.proofs.Words.{◌≡◌, false, drop, infix_from}
 use Rattle.postfix_rules.proofs.infix_part.next_part.Given as goal
 
 abbrev pub invariant-loop-i : goal.invariant-loop-i

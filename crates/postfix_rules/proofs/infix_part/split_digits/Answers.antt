@@ -1,8 +1,5 @@
-use Rattle.std.proofs.Common.{◌∙◌, ◌≤◌, ℕ, length, drop, sym, ap, subst}
+use Rattle.postfix_rules.proofs.Words.{◌∙◌, ◌≤◌, ℕ, length, drop, sym, ap, subst, prefix_len-le-length, is_digit, infix_from}
 use Rattle.std.specs.Prelude.{false}
-use Rattle.std.proofs.lemmas.List.Sums.{prefix_len-le-length}
-use Rattle.papi_base.specs.Numerals.{is_digit}
-use Rattle.postfix_rules.specs.InfixTokens.{infix_from}
 use Rattle.postfix_rules.proofs.InfixParts.{inside-digits}
 use Rattle.postfix_rules.proofs.infix_part.split_digits.Goals as goal
 

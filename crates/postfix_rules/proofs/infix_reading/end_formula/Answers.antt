@@ -1,7 +1,5 @@
-use Rattle.std.proofs.Common.{◌≡◌, ◌∙◌, ◌<◌, length, sym, subst, arith}
+use Rattle.postfix_rules.proofs.Words.{◌≡◌, ◌∙◌, ◌<◌, length, sym, subst, arith, IsFormula, ended_tokens}
 use Rattle.std.specs.Prelude.{IsTrue, true, false}
-use Rattle.postfix_rules.specs.Faults.{IsFormula}
-use Rattle.postfix_rules.specs.InfixReading.{ended_tokens}
 use Rattle.postfix_rules.proofs.InfixEnds.{end-deep, end-formula, end-missing, end-open}
 use Rattle.postfix_rules.proofs.infix_reading.end_formula.Goals as goal
 

@@ -1,5 +1,4 @@
-use Rattle.std.proofs.Common.{sym, subst}
-use Rattle.postfix_rules.specs.InfixReading.{AnswersInfix}
+use Rattle.postfix_rules.proofs.Words.{sym, subst, AnswersInfix}
 use Rattle.postfix_rules.proofs.InfixEnds.{cause-in, reads-ended, reads-more, reads-none, reads-refused}
 use Rattle.postfix_rules.proofs.infix_reading.formula_in.Goals as goal
 

@@ -1,5 +1,4 @@
-use Rattle.std.proofs.Common.{◌∙◌, ◌≤◌, length, sym, ap, arith}
-use Rattle.std.specs.Prelude.{is_some}
+use Rattle.postfix_rules.proofs.Words.{◌∙◌, ◌≤◌, length, sym, ap, arith, is_some}
 use Rattle.postfix_rules.proofs.InfixEnds.{checked, formula-iff, no-formula, none-checked}
 use Rattle.postfix_rules.proofs.infix_reading.is_formula.Goals as goal
 

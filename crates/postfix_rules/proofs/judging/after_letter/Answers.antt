@@ -1,5 +1,4 @@
-use Rattle.std.proofs.Common.{◌≡◌, ◌==◌, false}
-use Rattle.std.proofs.lemmas.Bool.{ne_eqb}
+use Rattle.postfix_rules.proofs.Words.{◌≡◌, ◌==◌, false, ne_eqb}
 use Rattle.postfix_rules.proofs.Digits.{none-unknown}
 use Rattle.postfix_rules.proofs.judging.after_letter.Goals as goal
 

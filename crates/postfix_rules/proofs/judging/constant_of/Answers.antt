@@ -1,5 +1,4 @@
-use Rattle.std.proofs.Common.{arith}
-use Rattle.std.specs.Str.Parse.{digits_value}
+use Rattle.postfix_rules.proofs.Words.{arith, digits_value}
 use Rattle.postfix_rules.proofs.Digits.{constant-large, wide}
 use Rattle.postfix_rules.proofs.judging.constant_of.Goals as goal
 

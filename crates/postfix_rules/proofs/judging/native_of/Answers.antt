@@ -1,6 +1,4 @@
-use Rattle.std.proofs.Common.{◌≡◌, ◌∙◌, false, sym, arith}
-use Rattle.std.specs.Str.Parse.{digits_value}
-use Rattle.papi_base.specs.Numerals.{is_numeral}
+use Rattle.postfix_rules.proofs.Words.{◌≡◌, ◌∙◌, false, sym, arith, digits_value, is_numeral}
 use Rattle.postfix_rules.proofs.Digits.{held, native-large, none-unknown, wide}
 use Rattle.postfix_rules.proofs.judging.native_of.Goals as goal
 

@@ -1,6 +1,4 @@
-use Rattle.std.proofs.Common.{◌≡◌, ◌∙◌, false, sym}
-use Rattle.std.proofs.lemmas.List.{nil_from_length}
-use Rattle.papi_base.specs.Numerals.{is_numeral}
+use Rattle.postfix_rules.proofs.Words.{◌≡◌, ◌∙◌, false, sym, nil_from_length, is_numeral}
 use Rattle.postfix_rules.proofs.Digits.{none-unknown}
 use Rattle.postfix_rules.proofs.judging.operand_of.Goals as goal
 

@@ -1,5 +1,4 @@
-use Rattle.std.proofs.Common.{sym, refl}
-use Rattle.postfix_rules.specs.Tokens.{part_of}
+use Rattle.postfix_rules.proofs.Words.{sym, refl, part_of}
 use Rattle.postfix_rules.proofs.judging.token_of.Goals as goal
 
 pub returns-in-Some : goal.returns-in-Some

@@ -1,8 +1,4 @@
-use Rattle.std.proofs.Common.{◌≡◌, ◌∙◌, ◌∷◌, ◌==◌, [], false, length, sym, ap}
-use Rattle.std.proofs.lemmas.Bool.{eqb-true}
-use Rattle.std.proofs.lemmas.List.{nil_from_length}
-use Rattle.postfix_rules.specs.Tokens.{part_of, parts_of}
-use Rattle.table_rows.specs.Texts.{Text, trimmed}
+use Rattle.postfix_rules.proofs.Words.{◌≡◌, ◌∙◌, ◌∷◌, ◌==◌, [], false, length, sym, ap, eqb-true, nil_from_length, part_of, parts_of, Text, trimmed}
 use Rattle.postfix_rules.proofs.Pieces.{not-empty, parts-blank, parts-last, some-length}
 use Rattle.postfix_rules.proofs.piece.last_piece.Goals as goal
 

@@ -1,6 +1,4 @@
-use Rattle.std.proofs.Common.{◌∙◌, ◌∷◌, ◌-◌, ◌+◌, take, drop, length, sym, ap}
-use Rattle.postfix_rules.specs.Tokens.{part_of, parts_of}
-use Rattle.table_rows.specs.Texts.{Text}
+use Rattle.postfix_rules.proofs.Words.{◌∙◌, ◌∷◌, ◌-◌, ◌+◌, take, drop, length, sym, ap, part_of, parts_of, Text}
 use Rattle.postfix_rules.proofs.Pieces.{parts-cut_rest}
 use Rattle.postfix_rules.proofs.piece.next_piece.Goals as goal
 

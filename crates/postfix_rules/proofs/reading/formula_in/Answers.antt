@@ -1,6 +1,4 @@
-use Rattle.std.proofs.Common.{◌≡◌, ◌∙◌, length, sym, ap, arith}
-use Rattle.std.specs.Prelude.{Ok}
-use Rattle.postfix_rules.specs.Tokens.{part_of}
+use Rattle.postfix_rules.proofs.Words.{◌≡◌, ◌∙◌, length, sym, ap, arith, Ok, part_of}
 use Rattle.postfix_rules.proofs.SoFar.{so_far-ended, so_far-formula, so_far-more, so_far-refused, so_far-unended}
 use Rattle.postfix_rules.proofs.reading.formula_in.Goals as goal
 

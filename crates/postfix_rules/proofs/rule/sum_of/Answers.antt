@@ -1,6 +1,4 @@
-use Rattle.std.proofs.Common.{rules, ◌≡◌, ◌∙◌, ◌+◌, ◌%◌, pos, ◌+ℤ◌, FitsSigned, to_z, of_z, w64, slice_index_or, sym}
-use Rattle.std.proofs.lemmas.Int.{wraps}
-use Rattle.postfix_rules.specs.Values.{wrapped}
+use Rattle.postfix_rules.proofs.Words.{rules, ◌≡◌, ◌∙◌, ◌+◌, ◌%◌, pos, ◌+ℤ◌, FitsSigned, to_z, of_z, w64, slice_index_or, sym, wraps, wrapped}
 use Rattle.postfix_rules.proofs.Sums.{sum-end, sum-more, sum-start}
 use Rattle.postfix_rules.proofs.rule.sum_of.Goals as goal
 

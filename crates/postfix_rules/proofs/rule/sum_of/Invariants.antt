@@ -1,5 +1,4 @@
-use Rattle.std.proofs.Common.{◌≡◌, drop, ◌+ℤ◌}
-use Rattle.postfix_rules.specs.Values.{signed_sum, wrapped}
+use Rattle.postfix_rules.proofs.Words.{◌≡◌, drop, ◌+ℤ◌, signed_sum, wrapped}
 use Rattle.postfix_rules.proofs.rule.sum_of.Given as goal
 
 abbrev pub invariant-loop-x : goal.invariant-loop-x

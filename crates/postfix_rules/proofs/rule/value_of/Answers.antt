@@ -1,7 +1,5 @@
-use Rattle.std.proofs.Common.{rules, ◌≡◌, ◌∙◌, ◌+◌, ◌-◌, ◌%◌, pos, ◌-ℤ◌, FitsSigned, to_z, of_z, w64, slice_index_or, ap, sym}
-use Rattle.std.proofs.lemmas.Int.{wraps}
-use Rattle.postfix_rules.specs.Rules.{rule_value}
-use Rattle.postfix_rules.specs.Values.{wrapped}
+use Rattle.postfix_rules.proofs.Words.{rules, ◌≡◌, ◌∙◌, ◌+◌, ◌-◌, ◌%◌, pos, ◌-ℤ◌, FitsSigned, to_z, of_z, w64, slice_index_or, ap, sym, wraps}
+use Rattle.postfix_rules.proofs.Words.{rule_value, wrapped}
 use Rattle.postfix_rules.proofs.Sums.{less-others}
 use Rattle.postfix_rules.proofs.rule.value_of.Goals as goal
 

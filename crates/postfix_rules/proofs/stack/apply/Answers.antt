@@ -1,6 +1,4 @@
-use Rattle.std.proofs.Common.{rules, ◌≡◌, ◌∙◌, w64, to_z-of_z, FitsSigned, refl}
-use Rattle.std.specs.Int.{int_wrapping_div}
-use Rattle.std.proofs.lemmas.Int.{wraps}
+use Rattle.postfix_rules.proofs.Words.{rules, ◌≡◌, ◌∙◌, w64, to_z-of_z, FitsSigned, refl, int_wrapping_div, wraps}
 use Rattle.postfix_rules.proofs.Divided.{div-wrapped, zero-bits}
 use Rattle.postfix_rules.proofs.stack.apply.Goals as goal
 

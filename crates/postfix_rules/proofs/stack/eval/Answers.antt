@@ -1,5 +1,4 @@
-use Rattle.std.proofs.Common.{◌∙◌, FitsSigned, ap, to_z-of_z, w64}
-use Rattle.postfix_rules.specs.Values.{formula_value}
+use Rattle.postfix_rules.proofs.Words.{◌∙◌, FitsSigned, ap, to_z-of_z, w64, formula_value}
 use Rattle.postfix_rules.proofs.TreeValues.{trees_valued}
 use Rattle.postfix_rules.proofs.stack.eval.Goals as goal
 

@@ -1,9 +1,5 @@
-use Rattle.std.proofs.Common.{◌≡◌, ◌∙◌, ◌+◌, ◌<◌, ◌≤◌, ◌∷◌, ◌++◌, ℕ, List, [], length, get_or, drop, sym, ap, append_assoc, append-nil}
-use Rattle.std.proofs.lemmas.List.{drop_more, drop_all}
-use Rattle.std.specs.Prelude.{string_bytes}
-use Rattle.postfix_rules.specs.declared.token.Token.{Token}
-use Rattle.postfix_rules.specs.Tokens.{formula_text, token_text}
-use Rattle.table_rows.specs.Texts.{Text}
+use Rattle.postfix_rules.proofs.Words.{◌≡◌, ◌∙◌, ◌+◌, ◌<◌, ◌≤◌, ◌∷◌, ◌++◌, ℕ, List, [], length, get_or, drop, sym, ap, append_assoc, append-nil}
+use Rattle.postfix_rules.proofs.Words.{drop_more, drop_all, string_bytes, Token, formula_text, token_text, Text}
 use Rattle.postfix_rules.proofs.writing.tokens_text.Goals as goal
 
 text-more : (xs : List Token) (i : ℕ) (d : Token) → i < length xs → formula_text (drop i xs) ≡ (token_text (get_or xs i d) ++ 124 ∷ []) ++ formula_text (drop (i + 1) xs)

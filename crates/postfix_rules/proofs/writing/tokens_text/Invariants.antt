@@ -1,6 +1,4 @@
-use Rattle.std.proofs.Common.{◌≡◌, ◌++◌, drop}
-use Rattle.std.specs.Prelude.{string_bytes}
-use Rattle.postfix_rules.specs.Tokens.{formula_text}
+use Rattle.postfix_rules.proofs.Words.{◌≡◌, ◌++◌, drop, string_bytes, formula_text}
 use Rattle.postfix_rules.proofs.writing.tokens_text.Given as goal
 
 abbrev pub invariant-loop-token : goal.invariant-loop-token

@@ -1,8 +1,4 @@
-use Rattle.std.proofs.Common.{◌≡◌, ◌∙◌, ◌<◌, ◌^◌, arith, ap}
-use Rattle.std.specs.Prelude.{string_bytes}
-use Rattle.std.proofs.lemmas.Result.{IfOk-weaker}
-use Rattle.postfix_rules.specs.Tokens.{formula_text}
-use Rattle.postfix_rules.specs.Reading.{formula_of}
+use Rattle.postfix_rules.proofs.Words.{◌≡◌, ◌∙◌, ◌<◌, ◌^◌, arith, ap, string_bytes, IfOk-weaker, formula_text, formula_of}
 use Rattle.postfix_rules.proofs.Written.{written_read}
 use Rattle.postfix_rules.proofs.writing.write_formula.Goals as goal
 

@@ -1,10 +1,5 @@
-use Rattle.std.proofs.Common.{codes, rules, tests}
+use Rattle.preset_csv.proofs.Words.{codes, rules, tests, bytes_eq, YieldsList-from_slice_split, any_from_yields_List, trimmed, has_rate}
 use Rattle.std.specs.Prelude.{◌==◌}
-use Rattle.std.specs.Str.{bytes_eq}
-use Rattle.std.proofs.lemmas.Iterator.Splits.{YieldsList-from_slice_split}
-use Rattle.std.proofs.lemmas.Iterator.Search.{any_from_yields_List}
-use Rattle.table_rows.specs.Texts.{trimmed}
-use Rattle.preset_csv.specs.Entries.{has_rate}
 use Rattle.preset_csv.proofs.judging.has_rate.Goals as goal
 
 pub returns : goal.returns

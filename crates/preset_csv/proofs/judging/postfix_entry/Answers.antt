@@ -1,6 +1,4 @@
-use Rattle.std.proofs.Common.{◌≡◌, ℕ, Some, Ok, map, length, string_bytes, subst, arith}
-use Rattle.std.proofs.lemmas.List.{length-map}
-use Rattle.postfix_rules.specs.Reading.{formula_of}
+use Rattle.preset_csv.proofs.Words.{◌≡◌, ℕ, Some, Ok, map, length, string_bytes, subst, arith, length-map, formula_of}
 use Rattle.preset_csv.specs.declared.kind.Kind.TheVariants as kind
 use Rattle.preset_csv.proofs.Judged.{def-kept, read-agrees}
 use Rattle.preset_csv.proofs.judging.postfix_entry.Goals as goal

@@ -1,6 +1,4 @@
-use Rattle.std.proofs.Common.{◌∙◌, ◌∷◌, [], arith, map, string_bytes, sym}
-use Rattle.std.proofs.lemmas.List.{length-map, take-append-le, take_all}
-use Rattle.postfix_rules.specs.declared.derived.TheConstants.{MOST_NATIVES}
+use Rattle.preset_csv.proofs.Words.{◌∙◌, ◌∷◌, [], arith, map, string_bytes, sym, length-map, take-append-le, take_all, MOST_NATIVES}
 use Rattle.preset_csv.proofs.natives.keep.Goals as goal
 
 pub returns-else-len : goal.returns-else-len

@@ -1,10 +1,5 @@
-use Rattle.std.proofs.Common.{◌≡◌, ◌∙◌, ◌∷◌, ◌++◌, [], true, false, map, string_bytes, take, sym, ap, subst, arith}
-use Rattle.std.proofs.lemmas.Result.{IfOk-weaker, MatchResult-weaker}
-use Rattle.papi_base.proofs.Steps.{not_given, is_given}
-use Rattle.csv.specs.Records.{fields_of}
-use Rattle.postfix_rules.specs.declared.derived.TheConstants.{MOST_NATIVES}
-use Rattle.table_rows.specs.Texts.{Text, is_printable}
-use Rattle.preset_csv.specs.Defs.{ends_natives}
+use Rattle.preset_csv.proofs.Words.{◌≡◌, ◌∙◌, ◌∷◌, ◌++◌, [], true, false, map, string_bytes, take, sym, ap, subst, arith, IfOk-weaker}
+use Rattle.preset_csv.proofs.Words.{MatchResult-weaker, not_given, is_given, fields_of, MOST_NATIVES, Text, is_printable, ends_natives}
 use Rattle.preset_csv.proofs.FoundNatives.{broken, ends-here, ends-last, held-more, over, within}
 use Rattle.preset_csv.proofs.natives.row_natives.Goals as goal
 

@@ -1,5 +1,4 @@
-use Rattle.std.proofs.Common.{map, string_bytes}
-use Rattle.csv.specs.Records.{fields_of}
+use Rattle.preset_csv.proofs.Words.{map, string_bytes, fields_of}
 use Rattle.preset_csv.proofs.FoundNatives.{Held}
 use Rattle.preset_csv.proofs.natives.row_natives.Given as goal
 

@@ -1,9 +1,4 @@
-use Rattle.std.proofs.Common.{◌≡◌, ◌∙◌, Err, List, ap₂, rules}
-use Rattle.table_rows.specs.Texts.{Text}
-use Rattle.preset_csv.specs.Entries.{judged, uncomputed}
-use Rattle.preset_csv.specs.Lines.{line_of, lines_of}
-use Rattle.preset_csv.specs.Presets.{preset_fault, presets_in}
-use Rattle.preset_csv.specs.declared.entry.Entry.{Entry}
+use Rattle.preset_csv.proofs.Words.{◌≡◌, ◌∙◌, Err, List, ap₂, rules, Text, judged, uncomputed, line_of, lines_of, preset_fault, presets_in, Entry}
 use Rattle.preset_csv.proofs.Judged.{judged-kept}
 use Rattle.preset_csv.proofs.TableKept.{line-kept, lines-plain, presets-kept}
 use Rattle.preset_csv.proofs.reading.read_presets.Goals as goal

@@ -1,8 +1,4 @@
-use Rattle.std.proofs.Common.{◌∙◌, sym, ap, arith}
-use Rattle.std.proofs.lemmas.Result.{err_from_is_err_and}
-use Rattle.csv.specs.Records.{fields_of}
-use Rattle.preset_csv.specs.Entries.{judged_by}
-use Rattle.preset_csv.specs.Symbols.{row_of}
+use Rattle.preset_csv.proofs.Words.{◌∙◌, sym, ap, arith, err_from_is_err_and, fields_of, judged_by, row_of}
 use Rattle.preset_csv.proofs.RowsTaken.{not-taken, put-taken, unknown-taken}
 use Rattle.preset_csv.proofs.reading.take_preset.Goals as goal
 

@@ -1,7 +1,6 @@
-use Rattle.std.proofs.Common.{rules, sym, arith}
+use Rattle.preset_csv.proofs.Words.{rules, sym, arith, preset_rows, row_of, symbol_at}
 use Rattle.preset_csv.proofs.Searching.{passes_over, stops_at, finds_none, rows_counted}
 use Rattle.preset_csv.proofs.symbols.preset_row.Goals as goal
-use Rattle.preset_csv.specs.Symbols.{preset_rows, row_of, symbol_at}
 
 pub loop-row-init : goal.loop-row-init
 loop-row-init c i below = absurd (omega (arith, below))

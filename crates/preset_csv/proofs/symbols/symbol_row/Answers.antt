@@ -1,5 +1,4 @@
-use Rattle.papi_base.proofs.Steps.{not_given}
-use Rattle.table_rows.specs.Texts.{is_printable}
+use Rattle.preset_csv.proofs.Words.{not_given, is_printable}
 use Rattle.preset_csv.proofs.SymbolRows.{no-symbol}
 use Rattle.preset_csv.proofs.symbols.symbol_row.Goals as goal
 

@@ -1,5 +1,4 @@
-use Rattle.std.proofs.Common.{◌≡◌, ◌++◌, map, take, string_bytes}
-use Rattle.preset_csv.specs.Steps.{after_commas}
+use Rattle.preset_csv.proofs.Words.{◌≡◌, ◌++◌, map, take, string_bytes, after_commas}
 use Rattle.preset_csv.proofs.writing.put_natives.Given as goal
 
 abbrev pub invariant-loop-native : goal.invariant-loop-native

@@ -1,7 +1,4 @@
-use Rattle.std.proofs.Common.{◌≡◌, ◌∙◌, ◌<◌, ◌≤◌, ◌∷◌, ◌++◌, [], List, codes, get_or, length, sym, ap, subst}
-use Rattle.table_rows.specs.Texts.{Text}
-use Rattle.preset_csv.specs.Written.{ReadsBack}
-use Rattle.preset_csv.specs.declared.entry.Entry.{Entry}
+use Rattle.preset_csv.proofs.Words.{◌≡◌, ◌∙◌, ◌<◌, ◌≤◌, ◌∷◌, ◌++◌, [], List, codes, get_or, length, sym, ap, subst, Text, ReadsBack, Entry}
 use Rattle.preset_csv.proofs.BackWhole.{reads-back}
 use Rattle.preset_csv.proofs.WrittenParts.{begun, ended, one-more}
 use Rattle.preset_csv.proofs.writing.write_presets.Goals as goal

@@ -1,10 +1,5 @@
-use Rattle.std.proofs.Common.{◌∙◌, rules, tests}
+use Rattle.profil_hist.proofs.Words.{◌∙◌, rules, tests, YieldsList-from_slice, any_from_yields_List, bytes_eq, list_any-map, range_text}
 use Rattle.std.specs.Prelude.{string_bytes}
-use Rattle.std.proofs.lemmas.Iterator.{YieldsList-from_slice}
-use Rattle.std.proofs.lemmas.Iterator.Search.{any_from_yields_List}
-use Rattle.std.specs.Str.{bytes_eq}
-use Rattle.papi_base.proofs.Steps.{list_any-map}
-use Rattle.profil_hist.specs.Views.{range_text}
 use Rattle.profil_hist.proofs.cause.has_name.Goals as goal
 
 pub returns : goal.returns

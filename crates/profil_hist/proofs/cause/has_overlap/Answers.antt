@@ -1,9 +1,4 @@
-use Rattle.std.proofs.Common.{◌∙◌, rules, tests}
-use Rattle.std.proofs.lemmas.Iterator.{YieldsList-from_slice}
-use Rattle.std.proofs.lemmas.Iterator.Search.{any_from_yields_List}
-use Rattle.papi_base.proofs.Steps.{list_any-map}
-use Rattle.profil_hist.specs.Ranges.{overlaps}
-use Rattle.profil_hist.specs.Views.{range_text}
+use Rattle.profil_hist.proofs.Words.{◌∙◌, rules, tests, YieldsList-from_slice, any_from_yields_List, list_any-map, overlaps, range_text}
 use Rattle.profil_hist.proofs.cause.has_overlap.Goals as goal
 
 pub returns : goal.returns

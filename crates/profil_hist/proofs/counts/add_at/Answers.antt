@@ -1,7 +1,4 @@
-use Rattle.std.proofs.Common.{arith}
-use Rattle.std.proofs.lemmas.List.Sums.{get_or-le-sum_by}
-use Rattle.std.specs.Prelude.{sum}
-use Rattle.profil_hist.specs.Counts.{RowText}
+use Rattle.profil_hist.proofs.Words.{arith, get_or-le-sum_by, sum, RowText}
 use Rattle.profil_hist.proofs.Rows.{noted-items, row-le-sum, there}
 use Rattle.profil_hist.proofs.counts.add_at.Goals as goal
 

@@ -1,8 +1,5 @@
-use Rattle.std.proofs.Common.{◌≡◌, ◌∙◌, None, sym, ap}
-use Rattle.std.proofs.lemmas.Option.{slice_get-map, slice_get_past}
-use Rattle.std.specs.Option.{option_and_then}
-use Rattle.std.specs.Prelude.{option_map, slice_get}
-use Rattle.profil_hist.specs.Counts.{RowText, counts_text}
+use Rattle.profil_hist.proofs.Words.{◌≡◌, ◌∙◌, None, sym, ap, slice_get-map, slice_get_past, option_and_then, option_map, slice_get, RowText}
+use Rattle.profil_hist.proofs.Words.{counts_text}
 use Rattle.profil_hist.proofs.counts.bucket_in.Goals as goal
 
 pub returns-in-None : goal.returns-in-None

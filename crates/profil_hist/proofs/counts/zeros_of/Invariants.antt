@@ -1,6 +1,4 @@
-use Rattle.std.proofs.Common.{◌≡◌, map, take}
-use Rattle.profil_hist.specs.Counts.{counts_text, no_counts}
-use Rattle.profil_hist.specs.Views.{range_text}
+use Rattle.profil_hist.proofs.Words.{◌≡◌, map, take, counts_text, no_counts, range_text}
 use Rattle.profil_hist.proofs.counts.zeros_of.Given as goal
 
 abbrev pub invariant-loop-r : goal.invariant-loop-r

@@ -1,8 +1,4 @@
-use Rattle.std.proofs.Common.{rules}
-use Rattle.std.specs.Prelude.{nat_le}
-use Rattle.std.proofs.lemmas.Bool.{leb-false, leb-true}
-use Rattle.std.proofs.lemmas.List.Sorted.{IsPartitionPoint-from_clause, IsPartitionedBy-leb}
-use Rattle.profil_hist.specs.declared.placing.RangeStart.{RangeStart}
+use Rattle.profil_hist.proofs.Words.{rules, nat_le, leb-false, leb-true, IsPartitionPoint-from_clause, IsPartitionedBy-leb, RangeStart}
 use Rattle.profil_hist.proofs.placing.count_below.Goals as goal
 
 pub returns-clause-point : goal.returns-clause-point

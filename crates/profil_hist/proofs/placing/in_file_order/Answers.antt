@@ -1,9 +1,4 @@
-use Rattle.std.proofs.Common.{◌∙◌, ◌<◌, Some, map, length, get_or, refl, ap, arith}
-use Rattle.std.specs.Prelude.{option_map}
-use Rattle.profil_hist.specs.Ranges.{RangeText}
-use Rattle.profil_hist.specs.Views.{range_text}
-use Rattle.profil_hist.specs.declared.range.MapRange.{MapRange}
-use Rattle.profil_hist.specs.declared.placing.RangeStart.{RangeStart}
+use Rattle.profil_hist.proofs.Words.{◌∙◌, ◌<◌, Some, map, length, get_or, refl, ap, arith, option_map, RangeText, range_text, MapRange, RangeStart}
 use Rattle.profil_hist.proofs.InOrder.{at-range, places-more}
 use Rattle.profil_hist.proofs.placing.in_file_order.Goals as goal
 

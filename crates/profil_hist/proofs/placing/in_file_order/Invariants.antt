@@ -1,6 +1,4 @@
-use Rattle.std.proofs.Common.{map}
-use Rattle.profil_hist.specs.Places.{ArePlacesOf}
-use Rattle.profil_hist.specs.Views.{range_text}
+use Rattle.profil_hist.proofs.Words.{map, ArePlacesOf, range_text}
 use Rattle.profil_hist.proofs.placing.in_file_order.Given as goal
 
 abbrev pub invariant-loop-range : goal.invariant-loop-range

@@ -1,9 +1,5 @@
-use Rattle.std.proofs.Common.{ℕ, map, length, subst, sym, rules}
-use Rattle.std.proofs.lemmas.List.{length-map}
-use Rattle.std.proofs.lemmas.List.Sorted.{IsNonDecreasingBy-from_sort_by_key}
-use Rattle.profil_hist.specs.Places.{ArePlacesOf}
-use Rattle.profil_hist.specs.Views.{range_text}
-use Rattle.profil_hist.specs.declared.placing.RangeStart.{RangeStart}
+use Rattle.profil_hist.proofs.Words.{ℕ, map, length, subst, sym, rules, length-map, IsNonDecreasingBy-from_sort_by_key, ArePlacesOf, range_text}
+use Rattle.profil_hist.proofs.Words.{RangeStart}
 use Rattle.profil_hist.proofs.InOrder.{places-moved}
 use Rattle.profil_hist.proofs.placing.order_of.Goals as goal
 

@@ -1,5 +1,4 @@
-use Rattle.std.proofs.Common.{arith}
-use Rattle.std.proofs.lemmas.Grind.{elements}
+use Rattle.profil_hist.proofs.Words.{arith, elements}
 use Rattle.profil_hist.proofs.placing.place_in.Goals as goal
 
 pub offset_bounds-ranges-range : goal.offset_bounds-ranges-range

@@ -1,10 +1,5 @@
-use Rattle.std.proofs.Common.{◌≡◌, ◌∙◌, ◌-◌, ◌<◌, ◌≤◌, ℕ, Bool, Some, length, map, get_or, refl, sym, ap, subst, arith}
-use Rattle.std.proofs.lemmas.List.{length-map}
-use Rattle.std.specs.Prelude.{option_map}
-use Rattle.std.specs.List.Sorted.{IsPartitionPoint}
-use Rattle.profil_hist.specs.Ranges.{RangeText, in_range}
-use Rattle.profil_hist.specs.Views.{range_text}
-use Rattle.profil_hist.specs.declared.placing.RangeStart.{RangeStart}
+use Rattle.profil_hist.proofs.Words.{◌≡◌, ◌∙◌, ◌-◌, ◌<◌, ◌≤◌, ℕ, Bool, Some, length, map, get_or, refl, sym, ap, subst, arith, length-map, option_map}
+use Rattle.profil_hist.proofs.Words.{IsPartitionPoint, RangeText, in_range, range_text, RangeStart}
 use Rattle.profil_hist.proofs.InOrder.{at-range, none-below, none-last, placed-within}
 use Rattle.profil_hist.proofs.placing.range_of.Goals as goal
 

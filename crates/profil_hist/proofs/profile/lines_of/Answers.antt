@@ -1,8 +1,4 @@
-use Rattle.std.proofs.Common.{[], ap, arith, length}
-use Rattle.std.proofs.lemmas.Grind.{elements}
-use Rattle.papi_base.proofs.Growing.{number_more}
-use Rattle.profil_hist.specs.Profiles.{lines_at}
-use Rattle.profil_hist.specs.Views.{range_text}
+use Rattle.profil_hist.proofs.Words.{[], ap, arith, length, elements, number_more, lines_at, range_text}
 use Rattle.profil_hist.proofs.Profiled.{is_there}
 use Rattle.profil_hist.proofs.profile.lines_of.Goals as goal
 use Rattle.profil_hist.proofs.profile.lines_of.Goals.{in-Some+in_ok-push_range, in_default}

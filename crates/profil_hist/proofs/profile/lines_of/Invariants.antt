@@ -1,6 +1,4 @@
-use Rattle.std.proofs.Common.{◌≡◌, string_bytes}
-use Rattle.std.specs.List.{flat_map, range_with_len}
-use Rattle.profil_hist.specs.Profiles.{lines_at}
+use Rattle.profil_hist.proofs.Words.{◌≡◌, string_bytes, flat_map, range_with_len, lines_at}
 use Rattle.profil_hist.proofs.profile.lines_of.Given as goal
 
 abbrev pub invariant-loop-k : goal.invariant-loop-k

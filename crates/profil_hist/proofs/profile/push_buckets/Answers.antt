@@ -1,8 +1,4 @@
-use Rattle.std.proofs.Common.{◌∙◌, ◌++◌, ap, string_bytes}
-use Rattle.std.specs.Prelude.{unwrap_or}
-use Rattle.papi_base.proofs.Growing.{number_more}
-use Rattle.profil_hist.specs.Profiles.{bucket_line, count_or_none}
-use Rattle.profil_hist.specs.Views.{range_text}
+use Rattle.profil_hist.proofs.Words.{◌∙◌, ◌++◌, ap, string_bytes, unwrap_or, number_more, bucket_line, count_or_none, range_text}
 use Rattle.profil_hist.proofs.profile.push_buckets.Goals as goal
 
 pub loop-i-preserved : goal.loop-i-preserved

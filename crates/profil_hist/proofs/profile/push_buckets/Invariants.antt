@@ -1,7 +1,4 @@
-use Rattle.std.proofs.Common.{◌≡◌, ◌++◌, string_bytes}
-use Rattle.std.specs.List.{flat_map, range_with_len}
-use Rattle.profil_hist.specs.Profiles.{bucket_line, count_or_none}
-use Rattle.profil_hist.specs.Views.{range_text}
+use Rattle.profil_hist.proofs.Words.{◌≡◌, ◌++◌, string_bytes, flat_map, range_with_len, bucket_line, count_or_none, range_text}
 use Rattle.profil_hist.proofs.profile.push_buckets.Given as goal
 
 abbrev pub invariant-loop-i : goal.invariant-loop-i

@@ -1,6 +1,4 @@
-use Rattle.std.proofs.Common.{◌∙◌, sym, arith}
-use Rattle.table_rows.proofs.Ranges.{decimal_in-range}
-use Rattle.profil_hist.specs.declared.limits.TheConstants.{MOST_BUCKET_ADDRESSES}
+use Rattle.profil_hist.proofs.Words.{◌∙◌, sym, arith, decimal_in-range, MOST_BUCKET_ADDRESSES}
 use Rattle.profil_hist.proofs.row.width_in.Goals as goal
 
 pub overflow_cast-result : goal.overflow_cast-result

@@ -1,23 +1,7 @@
-use Rattle.std.proofs.Common.{rules, ◌≡◌, ◌∙◌, List, ap, sym, subst, Err, Result, [], Vec}
-use Rattle.std.proofs.lemmas.Result.{IfOk-at_ok, IfOk-weaker, err_from_is_err_and}
-use Rattle.std.specs.Option.{option_map}
-use Rattle.std.specs.declared.alloc.Global.{Global}
-use Rattle.event_sets.specs.declared.refusal.Refusal.{Refusal}
-use Rattle.event_tables.specs.Tables.{ComponentText, shape_of}
-use Rattle.event_tables.specs.Unit.{ReadsUnit}
-use Rattle.name_encoder.specs.Names.{names}
-use Rattle.papi_base.specs.Outside.{Tape}
-use Rattle.papi_base.specs.Streams.{Dry}
-use Rattle.session_model.specs.Step.{account_after}
-use Rattle.stream_reader.specs.Occurs.{occurs_of}
-use Rattle.thread_core.specs.CoreView.{CoreView, opening_core}
-use Rattle.thread_core.specs.Stands.{AgreesWith, CoreStands}
-use Rattle.profiler.specs.Hottest.{AreHottest}
-use Rattle.profiler.specs.Passings.{IsAnswered, IsSampled, calls, passings}
-use Rattle.profiler.specs.Profiles.{IsProfile, IsProfiled, before}
-use Rattle.profiler.specs.declared.profile.Fault.{Fault}
-use Rattle.profiler.specs.declared.ranking.Hot.{Hot}
-use Rattle.profiler.specs.declared.ranking.TheConstants.{MOST}
+use Rattle.profiler.proofs.Words.{rules, ◌≡◌, ◌∙◌, List, ap, sym, subst, Err, Result, [], Vec, IfOk-at_ok, IfOk-weaker, err_from_is_err_and}
+use Rattle.profiler.proofs.Words.{option_map, Global, Refusal, ComponentText, shape_of, ReadsUnit, names, Tape, Dry, account_after, occurs_of}
+use Rattle.profiler.proofs.Words.{CoreView, opening_core, AgreesWith, CoreStands, AreHottest, IsAnswered, IsSampled, calls, passings, IsProfile}
+use Rattle.profiler.proofs.Words.{IsProfiled, before, Fault, Hot, MOST}
 use Rattle.profiler.proofs.Profiled.{begins, empty_fits, err_under, finished, not_begun, ok_under, profiled, stopped}
 use Rattle.profiler.proofs.profile.profile.Goals as goal
 

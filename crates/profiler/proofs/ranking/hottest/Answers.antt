@@ -1,11 +1,5 @@
-use Rattle.std.proofs.Common.{rules, ◌≡◌, ℕ, List, map, ◌∙◌, ap, sym, subst}
-use Rattle.std.proofs.lemmas.List.{map-id}
-use Rattle.std.proofs.lemmas.List.Sorted.{answers_always}
-use Rattle.std.proofs.lemmas.Map.Iter.{iter_end}
+use Rattle.profiler.proofs.Words.{rules, ◌≡◌, ℕ, List, map, ◌∙◌, ap, sym, subst, map-id, answers_always, iter_end, AreHottest, Hot, MOST}
 use Rattle.profiler.proofs.Ranked.{hot_of, ranked}
-use Rattle.profiler.specs.Hottest.{AreHottest}
-use Rattle.profiler.specs.declared.ranking.Hot.{Hot}
-use Rattle.profiler.specs.declared.ranking.TheConstants.{MOST}
 use Rattle.profiler.proofs.ranking.hottest.Goals as goal
 
 pub returns : goal.returns

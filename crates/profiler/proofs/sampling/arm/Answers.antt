@@ -1,14 +1,8 @@
-use Rattle.std.proofs.Common.{rules, sym, subst, [], ◌∷◌, ◌≡◌, ℕ, Ok, Result, Some}
-use Rattle.std.proofs.lemmas.Result.{err_from_is_err_and}
-use Rattle.papi_base.specs.declared.code.Code.{Code}
+use Rattle.profiler.proofs.Words.{rules, sym, subst, [], ◌∷◌, ◌≡◌, ℕ, Ok, Result, Some, err_from_is_err_and, Code, Refusal, plain, refused}
+use Rattle.profiler.proofs.Words.{replies_to, Follows, changed_reply, reply_of, calls, first_refused}
 use Rattle.papi_base.specs.declared.native.EventRef.TheVariants as event
-use Rattle.event_sets.specs.declared.refusal.Refusal.{Refusal}
-use Rattle.session_model.specs.Replies.{plain, refused}
-use Rattle.session_model.specs.Step.{replies_to}
 use Rattle.call_type.specs.declared.call.Call.TheVariants as call
 use Rattle.session_model.specs.declared.reply.Body.TheVariants as body
-use Rattle.thread_core.specs.Following.{Follows, changed_reply, reply_of}
-use Rattle.profiler.specs.Passings.{calls, first_refused}
 use Rattle.profiler.proofs.Armed.{all_done, create_not_ok, first_refusal, made_before, none_made, not_ok, refusal_not_ok, reply_ok}
 use Rattle.profiler.proofs.Profiled.{err_under}
 use Rattle.profiler.proofs.sampling.arm.Goals as goal

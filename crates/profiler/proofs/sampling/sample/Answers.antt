@@ -1,7 +1,4 @@
-use Rattle.std.proofs.Common.{rules, arith, length}
-use Rattle.std.proofs.lemmas.Grind.{common_steps}
-use Rattle.std.specs.BTreeMap.{get}
-use Rattle.std.specs.Ordering.{nat_cmp}
+use Rattle.profiler.proofs.Words.{rules, arith, length, common_steps, get, nat_cmp}
 use Rattle.papi_base.specs.Streams.{Bad, Dry, Fault}
 use Rattle.profiler.proofs.Sampled.{at_end, in_step_then, few_raised, one_more, passings_at_replicate, raised, some_raised}
 use Rattle.profiler.proofs.sampling.sample.Goals as goal

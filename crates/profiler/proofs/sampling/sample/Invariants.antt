@@ -1,13 +1,5 @@
-use Rattle.std.proofs.Common.{◌≡◌, ◌-◌, ◌*◌, ◌≤◌, ◌<◌, ℕ, Some, unwrap_or}
-use Rattle.std.specs.BTreeMap.{get}
-use Rattle.std.specs.Ordering.{nat_cmp}
-use Rattle.papi_base.specs.Streams.{Coming}
-use Rattle.papi_base.specs.declared.limits.TheConstants.{MOST_OCCURRENCES, MOST_SET_EVENTS}
-use Rattle.postfix_rules.specs.Presets.{Book}
-use Rattle.session_model.specs.Account.{Account}
-use Rattle.stream_reader.specs.Reader.{coming}
-use Rattle.thread_core.specs.Stands.{CoreStands}
-use Rattle.profiler.specs.Passings.{AreInStep}
+use Rattle.profiler.proofs.Words.{◌≡◌, ◌-◌, ◌*◌, ◌≤◌, ◌<◌, ℕ, Some, unwrap_or, get, nat_cmp, Coming, MOST_OCCURRENCES, MOST_SET_EVENTS, Book, Account}
+use Rattle.profiler.proofs.Words.{coming, CoreStands, AreInStep}
 use Rattle.profiler.proofs.Sampled.{SoFar}
 use Rattle.profiler.proofs.sampling.sample.Given as goal
 

@@ -1,5 +1,4 @@
-use Rattle.std.proofs.Common.{[], ◌∷◌, ◌+◌, ◌∙◌, ap, ap₂, arith, length, length-append, min, rules, w64}
-use Rattle.std.proofs.lemmas.Int.{to_z-of_z}
+use Rattle.region_report.proofs.Words.{[], ◌∷◌, ◌+◌, ◌∙◌, ap, ap₂, arith, length, length-append, min, rules, w64, to_z-of_z}
 use Rattle.region_report.proofs.Counted.{pair_more, pairs_all}
 use Rattle.region_report.proofs.pairing.pairwise.Goals as goal
 

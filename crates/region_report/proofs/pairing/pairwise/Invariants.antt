@@ -1,5 +1,4 @@
-use Rattle.std.proofs.Common.{◌≡◌, ◌++◌, drop, length}
-use Rattle.region_report.specs.Spans.{pairwise}
+use Rattle.region_report.proofs.Words.{◌≡◌, ◌++◌, drop, length, pairwise}
 use Rattle.region_report.proofs.pairing.pairwise.Given as goal
 
 abbrev pub invariant-loop-i : goal.invariant-loop-i

@@ -1,14 +1,7 @@
-use Rattle.std.proofs.Common.{◌≡◌, ◌∙◌, ◌<◌, ◌≤◌, ◌+◌, ◌^◌, ◌∷◌, ◌++◌, ℕ, Bool, true, false, [], Result, List, Ok, Err, arith, length, length-append, refl, sym, ap, append-nil, if◌then◌else◌}
-use Rattle.std.proofs.lemmas.List.Elements.{All-nil, All-push}
-use Rattle.papi_base.specs.declared.limits.TheConstants.{THREADS}
-use Rattle.script_lines.specs.ByLine.{Refused, put_before}
-use Rattle.script_lines.proofs.Reading.{reads-end, reads-fault, reads-line, reads-skipped, reads-start}
-use Rattle.region_report.specs.Kept.{count_of}
-use Rattle.region_report.specs.Lines.{after_line, after_reading, is_reading}
-use Rattle.region_report.specs.Scripts.{above_line, none_open, region_scripts, regions_of}
-use Rattle.region_report.specs.declared.fault.RegionCause.{RegionCause}
-use Rattle.region_report.specs.declared.fault.RegionCause.TheVariants.{NotEnded}
-use Rattle.region_report.specs.declared.regions.RegionLine.{RegionLine}
+use Rattle.region_report.proofs.Words.{◌≡◌, ◌∙◌, ◌<◌, ◌≤◌, ◌+◌, ◌^◌, ◌∷◌, ◌++◌, ℕ, Bool, true, false, [], Result, List, Ok, Err, arith, length}
+use Rattle.region_report.proofs.Words.{length-append, refl, sym, ap, append-nil, if◌then◌else◌, All-nil, All-push, THREADS, Refused, put_before}
+use Rattle.region_report.proofs.Words.{reads-end, reads-fault, reads-line, reads-skipped, reads-start, count_of, after_line, after_reading}
+use Rattle.region_report.proofs.Words.{is_reading, above_line, none_open, region_scripts, regions_of, RegionCause, NotEnded, RegionLine}
 use Rattle.region_report.proofs.regions.read_regions.Goals as goal
 
 pub loop-rest-init : goal.loop-rest-init

@@ -1,7 +1,4 @@
-use Rattle.std.proofs.Common.{◌≤◌, length}
-use Rattle.script_lines.proofs.Reading.{Reads}
-use Rattle.region_report.specs.Kept.{IsRegions}
-use Rattle.region_report.specs.Scripts.{above_line, none_open, region_scripts}
+use Rattle.region_report.proofs.Words.{◌≤◌, length, Reads, IsRegions, above_line, none_open, region_scripts}
 use Rattle.region_report.proofs.regions.read_regions.Given as goal
 
 abbrev pub invariant-loop-rest : goal.invariant-loop-rest

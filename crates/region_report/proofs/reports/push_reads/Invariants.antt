@@ -1,7 +1,4 @@
-use Rattle.std.proofs.Common.{◌≡◌, ◌++◌, map, string_bytes, take}
-use Rattle.std.specs.List.{flat_map}
-use Rattle.region_report.specs.Reports.{read_text}
-use Rattle.region_report.specs.Spans.{span_text}
+use Rattle.region_report.proofs.Words.{◌≡◌, ◌++◌, map, string_bytes, take, flat_map, read_text, span_text}
 use Rattle.region_report.proofs.reports.push_reads.Given as goal
 
 abbrev pub invariant-loop-span : goal.invariant-loop-span

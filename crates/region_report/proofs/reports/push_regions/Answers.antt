@@ -1,5 +1,4 @@
-use Rattle.std.proofs.Common.{◌∙◌, ◌++◌, List, ap, append-nil, map, string_bytes, sym, ℕ}
-use Rattle.region_report.specs.Spans.{span_text}
+use Rattle.region_report.proofs.Words.{◌∙◌, ◌++◌, List, ap, append-nil, map, string_bytes, sym, ℕ, span_text}
 use Rattle.region_report.proofs.Flags.{no_regions}
 use Rattle.region_report.proofs.reports.push_regions.Goals as goal
 

@@ -1,7 +1,4 @@
-use Rattle.std.proofs.Common.{map}
-use Rattle.papi_base.proofs.Growing.{number_more}
-use Rattle.region_report.specs.Reports.{thread_text}
-use Rattle.region_report.specs.Spans.{span_text}
+use Rattle.region_report.proofs.Words.{map, number_more, thread_text, span_text}
 use Rattle.region_report.proofs.reports.push_threads.Goals as goal
 
 pub loop-thread-preserved : goal.loop-thread-preserved

@@ -1,7 +1,4 @@
-use Rattle.std.proofs.Common.{◌≡◌, ◌++◌, map, string_bytes}
-use Rattle.std.specs.List.{flat_map, range_with_len}
-use Rattle.region_report.specs.Reports.{thread_text}
-use Rattle.region_report.specs.Spans.{span_text}
+use Rattle.region_report.proofs.Words.{◌≡◌, ◌++◌, map, string_bytes, flat_map, range_with_len, thread_text, span_text}
 use Rattle.region_report.proofs.reports.push_threads.Given as goal
 
 abbrev pub invariant-loop-thread : goal.invariant-loop-thread

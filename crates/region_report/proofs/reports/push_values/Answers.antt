@@ -1,8 +1,5 @@
-use Rattle.std.proofs.Common.{◌∙◌, ◌++◌, ◌∷◌, ap, rules, w64}
-use Rattle.std.proofs.lemmas.Int.{to_z-of_z}
-use Rattle.std.specs.Fmt.{signed_decimal}
+use Rattle.region_report.proofs.Words.{◌∙◌, ◌++◌, ◌∷◌, ap, rules, w64, to_z-of_z, signed_decimal, item_more}
 use Rattle.std.specs.Prelude.{string_bytes}
-use Rattle.papi_base.proofs.Growing.{item_more}
 use Rattle.region_report.proofs.reports.push_values.Goals as goal
 
 pub loop-i-preserved : goal.loop-i-preserved

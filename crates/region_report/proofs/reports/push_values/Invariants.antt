@@ -1,5 +1,4 @@
-use Rattle.std.proofs.Common.{◌≡◌, ◌++◌, string_bytes, take}
-use Rattle.region_report.specs.Reports.{values_text}
+use Rattle.region_report.proofs.Words.{◌≡◌, ◌++◌, string_bytes, take, values_text}
 use Rattle.region_report.proofs.reports.push_values.Given as goal
 
 abbrev pub invariant-loop-i : goal.invariant-loop-i

@@ -1,6 +1,4 @@
-use Rattle.std.proofs.Common.{◌≡◌, ◌++◌, string_bytes, take}
-use Rattle.std.specs.List.{flat_map}
-use Rattle.region_report.specs.Calls.{add_text}
+use Rattle.region_report.proofs.Words.{◌≡◌, ◌++◌, string_bytes, take, flat_map, add_text}
 use Rattle.region_report.proofs.script.push_adds.Given as goal
 
 abbrev pub invariant-loop-event : goal.invariant-loop-event

@@ -1,6 +1,4 @@
-use Rattle.std.proofs.Common.{◌≡◌, ◌++◌, string_bytes, take}
-use Rattle.std.specs.List.{flat_map}
-use Rattle.region_report.specs.Calls.{line_text}
+use Rattle.region_report.proofs.Words.{◌≡◌, ◌++◌, string_bytes, take, flat_map, line_text}
 use Rattle.region_report.proofs.script.push_lines.Given as goal
 
 abbrev pub invariant-loop-line : goal.invariant-loop-line

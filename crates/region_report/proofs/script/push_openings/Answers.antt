@@ -1,8 +1,5 @@
-use Rattle.std.proofs.Common.{◌∙◌, ◌++◌, Bool, [], ap, arith, string_bytes}
+use Rattle.region_report.proofs.Words.{◌∙◌, ◌++◌, Bool, [], ap, arith, string_bytes, THREADS, number_more, numbers_all, opening, thread_opening}
 use Rattle.std.specs.Prelude.{if◌then◌else◌}
-use Rattle.papi_base.specs.declared.limits.TheConstants.{THREADS}
-use Rattle.papi_base.proofs.Growing.{number_more, numbers_all}
-use Rattle.region_report.specs.Calls.{opening, thread_opening}
 use Rattle.region_report.proofs.script.push_openings.Goals as goal
 
 pub loop-thread-preserved : goal.loop-thread-preserved

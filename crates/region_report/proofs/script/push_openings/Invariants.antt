@@ -1,6 +1,4 @@
-use Rattle.std.proofs.Common.{◌≡◌, ◌++◌, string_bytes}
-use Rattle.std.specs.List.{flat_map, range_with_len}
-use Rattle.region_report.specs.Calls.{thread_opening}
+use Rattle.region_report.proofs.Words.{◌≡◌, ◌++◌, string_bytes, flat_map, range_with_len, thread_opening}
 use Rattle.region_report.proofs.script.push_openings.Given as goal
 
 abbrev pub invariant-loop-thread : goal.invariant-loop-thread

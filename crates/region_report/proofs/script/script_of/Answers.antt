@@ -1,6 +1,4 @@
-use Rattle.std.proofs.Common.{◌∙◌, ap}
-use Rattle.script_lines.specs.Scripts.{script_of}
-use Rattle.region_report.specs.Calls.{script_text}
+use Rattle.region_report.proofs.Words.{◌∙◌, ap, script_of, script_text}
 use Rattle.region_report.proofs.ScriptRead.{is_read}
 use Rattle.region_report.proofs.script.script_of.Goals as goal
 

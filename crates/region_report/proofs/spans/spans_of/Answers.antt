@@ -1,6 +1,4 @@
-use Rattle.std.proofs.Common.{arith, sym}
-use Rattle.std.proofs.lemmas.List.{length-map}
-use Rattle.region_report.specs.Spans.{reading_values, span_text}
+use Rattle.region_report.proofs.Words.{arith, sym, length-map, reading_values, span_text}
 use Rattle.region_report.proofs.Counted.{span_all, span_on}
 use Rattle.region_report.proofs.spans.spans_of.Goals as goal
 

@@ -1,5 +1,4 @@
-use Rattle.std.proofs.Common.{◌≡◌, ◌++◌, drop, length, map}
-use Rattle.region_report.specs.Spans.{reading_values, span_text, spans_from}
+use Rattle.region_report.proofs.Words.{◌≡◌, ◌++◌, drop, length, map, reading_values, span_text, spans_from}
 use Rattle.region_report.proofs.spans.spans_of.Given as goal
 
 abbrev pub invariant-loop-line : goal.invariant-loop-line

@@ -1,7 +1,4 @@
-use Rattle.std.proofs.Common.{◌≡◌, ◌<◌, ℕ, false, take}
-use Rattle.std.specs.Prelude.{slice_index_or}
-use Rattle.papi_base.specs.declared.limits.TheConstants.{THREADS}
-use Rattle.region_report.specs.Calls.{has_lines}
+use Rattle.region_report.proofs.Words.{◌≡◌, ◌<◌, ℕ, false, take, slice_index_or, THREADS, has_lines}
 use Rattle.region_report.proofs.threads.threads_of_lines.Given as goal
 
 abbrev pub invariant-loop-line : goal.invariant-loop-line

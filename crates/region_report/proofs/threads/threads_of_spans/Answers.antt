@@ -1,8 +1,5 @@
-use Rattle.std.proofs.Common.{arith}
-use Rattle.std.proofs.lemmas.List.{get_or-replicate}
+use Rattle.region_report.proofs.Words.{arith, get_or-replicate, THREADS, span_text}
 use Rattle.std.specs.Prelude.{false}
-use Rattle.papi_base.specs.declared.limits.TheConstants.{THREADS}
-use Rattle.region_report.specs.Spans.{span_text}
 use Rattle.region_report.proofs.Flags.{flags_more_seen}
 use Rattle.region_report.proofs.threads.threads_of_spans.Goals as goal
 

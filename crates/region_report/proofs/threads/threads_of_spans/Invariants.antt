@@ -1,7 +1,4 @@
-use Rattle.std.proofs.Common.{◌≡◌, ◌<◌, ℕ, false, map, take}
-use Rattle.std.specs.Prelude.{slice_index_or}
-use Rattle.papi_base.specs.declared.limits.TheConstants.{THREADS}
-use Rattle.region_report.specs.Spans.{has_spans, span_text}
+use Rattle.region_report.proofs.Words.{◌≡◌, ◌<◌, ℕ, false, map, take, slice_index_or, THREADS, has_spans, span_text}
 use Rattle.region_report.proofs.threads.threads_of_spans.Given as goal
 
 abbrev pub invariant-loop-span : goal.invariant-loop-span

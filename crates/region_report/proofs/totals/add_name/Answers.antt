@@ -1,5 +1,4 @@
-use Rattle.std.proofs.Common.{refl}
-use Rattle.std.specs.Str.{bytes_eq}
+use Rattle.region_report.proofs.Words.{refl, bytes_eq}
 use Rattle.region_report.proofs.TotalsKept.{inserted}
 use Rattle.region_report.proofs.totals.add_name.Goals as goal
 

@@ -1,6 +1,4 @@
-use Rattle.std.proofs.Common.{arith}
-use Rattle.region_report.specs.Reports.{with_begin}
-use Rattle.region_report.specs.Spans.{span_text}
+use Rattle.region_report.proofs.Words.{arith, with_begin, span_text}
 use Rattle.region_report.proofs.Pieces.{fold_end, fold_on}
 use Rattle.region_report.proofs.totals.names_of.Goals as goal
 

@@ -1,7 +1,4 @@
-use Rattle.std.proofs.Common.{◌≡◌, drop, map}
-use Rattle.std.specs.Prelude.{fold}
-use Rattle.region_report.specs.Reports.{names_of, with_begin}
-use Rattle.region_report.specs.Spans.{span_text}
+use Rattle.region_report.proofs.Words.{◌≡◌, drop, map, fold, names_of, with_begin, span_text}
 use Rattle.region_report.proofs.totals.names_of.Given as goal
 
 abbrev pub invariant-loop-span : goal.invariant-loop-span

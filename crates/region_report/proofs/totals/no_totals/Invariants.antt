@@ -1,5 +1,4 @@
-use Rattle.std.proofs.Common.{◌≡◌}
-use Rattle.std.specs.Prelude.{pos, replicate}
+use Rattle.region_report.proofs.Words.{◌≡◌, pos, replicate}
 use Rattle.region_report.proofs.totals.no_totals.Given as goal
 
 abbrev pub invariant-loop-region : goal.invariant-loop-region

@@ -1,5 +1,4 @@
-use Rattle.std.proofs.Common.{◌∙◌}
-use Rattle.std.specs.Str.{bytes_eq}
+use Rattle.region_report.proofs.Words.{◌∙◌, bytes_eq}
 use Rattle.region_report.proofs.TotalsKept.{position_seen}
 use Rattle.region_report.proofs.totals.place_in.Goals as goal
 

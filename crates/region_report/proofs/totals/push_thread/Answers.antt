@@ -1,7 +1,4 @@
-use Rattle.std.proofs.Common.{◌∙◌, ◌++◌, ap, map, string_bytes, sym}
-use Rattle.std.proofs.lemmas.Result.{on_ok_weaker}
-use Rattle.region_report.specs.Spans.{span_text}
-use Rattle.region_report.specs.Totals.{total_of}
+use Rattle.region_report.proofs.Words.{◌∙◌, ◌++◌, ap, map, string_bytes, sym, on_ok_weaker, span_text, total_of}
 use Rattle.region_report.proofs.TotalsKept.{as_many, lines_told}
 use Rattle.region_report.proofs.totals.push_thread.Goals as goal
 

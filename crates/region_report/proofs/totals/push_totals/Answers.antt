@@ -1,5 +1,4 @@
-use Rattle.std.proofs.Common.{arith, map}
-use Rattle.std.proofs.lemmas.List.{length-map}
+use Rattle.region_report.proofs.Words.{arith, map, length-map}
 use Rattle.region_report.proofs.TotalsKept.{line_more, lines_all}
 use Rattle.region_report.proofs.totals.push_totals.Goals as goal
 

@@ -1,5 +1,4 @@
-use Rattle.std.proofs.Common.{◌≡◌, ◌++◌, drop, map, string_bytes}
-use Rattle.region_report.specs.Totals.{totals_text}
+use Rattle.region_report.proofs.Words.{◌≡◌, ◌++◌, drop, map, string_bytes, totals_text}
 use Rattle.region_report.proofs.totals.push_totals.Given as goal
 
 abbrev pub invariant-loop-i : goal.invariant-loop-i

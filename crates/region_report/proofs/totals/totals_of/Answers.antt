@@ -1,9 +1,5 @@
-use Rattle.std.proofs.lemmas.Grind.{common_steps}
-use Rattle.std.proofs.Common.{◌<◌, ◌^◌, ◌∙◌, All, ap, ap₂, arith, map, subst, sym, take}
-use Rattle.std.proofs.lemmas.List.{length-map, length-take-le, take_all}
-use Rattle.region_report.specs.Spans.{span_text}
-use Rattle.region_report.specs.Totals.{total_of, with_instance_at}
-use Rattle.region_report.specs.declared.totals.RegionTotal.{RegionTotal}
+use Rattle.region_report.proofs.Words.{common_steps, ◌<◌, ◌^◌, ◌∙◌, All, ap, ap₂, arith, map, subst, sym, take, length-map, length-take-le, take_all}
+use Rattle.region_report.proofs.Words.{span_text, total_of, with_instance_at, RegionTotal}
 use Rattle.region_report.proofs.TotalsKept.{AreDistinct, few_instances, names_distinct, one_more, totals_more, totals_none}
 use Rattle.region_report.proofs.totals.totals_of.Goals as goal
 

@@ -1,6 +1,4 @@
-use Rattle.std.proofs.Common.{◌≡◌, map, take}
-use Rattle.region_report.specs.Spans.{span_text}
-use Rattle.region_report.specs.Totals.{total_of}
+use Rattle.region_report.proofs.Words.{◌≡◌, map, take, span_text, total_of}
 use Rattle.region_report.proofs.totals.totals_of.Given as goal
 
 abbrev pub invariant-loop-span : goal.invariant-loop-span

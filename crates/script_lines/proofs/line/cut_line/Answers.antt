@@ -1,5 +1,4 @@
-use Rattle.std.proofs.Common.{◌∙◌, ◌∷◌, ◌-◌, ◌+◌, List, ℕ, ap, drop, length, take, sym}
-use Rattle.std.specs.Str.Lines.{lines}
+use Rattle.script_lines.proofs.Words.{◌∙◌, ◌∷◌, ◌-◌, ◌+◌, List, ℕ, ap, drop, length, take, sym, lines}
 use Rattle.script_lines.proofs.LineCuts.{lines-cut_rest, lines-last}
 use Rattle.script_lines.proofs.line.cut_line.Goals as goal
 

@@ -1,11 +1,5 @@
-use Rattle.std.proofs.Common.{◌∙◌, ◌++◌, ◌∷◌, List, [], ap, sym, subst, take}
-use Rattle.std.specs.Prelude.{All}
-use Rattle.std.proofs.lemmas.List.{take_all, take_more}
-use Rattle.std.proofs.lemmas.List.Elements.{All-map, All-push}
-use Rattle.component_table.specs.Catalogs.{CatalogView}
-use Rattle.script_lines.specs.declared.script.ScriptLine.{ScriptLine}
-use Rattle.script_runner.specs.Resolving.{IsGoodAsk, asked_of, line_of, lines_of}
-use Rattle.session_model.specs.declared.line.Line.{Line}
+use Rattle.script_runner.proofs.Words.{◌∙◌, ◌++◌, ◌∷◌, List, [], ap, sym, subst, take, All, take_all, take_more, All-map, All-push, CatalogView}
+use Rattle.script_runner.proofs.Words.{ScriptLine, IsGoodAsk, asked_of, line_of, lines_of, Line}
 use Rattle.script_runner.proofs.fitting.lines_fit.Goals as goal
 
 abbrev Fit : CatalogView → ScriptLine → Type 0

@@ -1,6 +1,4 @@
-use Rattle.std.proofs.Common.{take}
-use Rattle.std.specs.Prelude.{All}
-use Rattle.script_runner.specs.Resolving.{IsGoodAsk, asked_of}
+use Rattle.script_runner.proofs.Words.{take, All, IsGoodAsk, asked_of}
 use Rattle.script_runner.proofs.fitting.lines_fit.Given as goal
 
 abbrev pub invariant-loop-line : goal.invariant-loop-line

@@ -1,7 +1,5 @@
-use Rattle.std.proofs.Common.{◌≡◌, ◌+◌, ◌<◌, ◌≤◌, ◌∙◌, inl, inr, ℕ, List, ap, sym, subst, arith, length, slice_get, Some}
-use Rattle.std.proofs.lemmas.Bool.{cases_lt}
-use Rattle.std.proofs.lemmas.Option.{slice_get_within}
-use Rattle.papi_base.specs.Widths.{AreWidths}
+use Rattle.script_runner.proofs.Words.{◌≡◌, ◌+◌, ◌<◌, ◌≤◌, ◌∙◌, inl, inr, ℕ, List, ap, sym, subst, arith, length, slice_get, Some, cases_lt}
+use Rattle.script_runner.proofs.Words.{slice_get_within, AreWidths}
 use Rattle.script_runner.proofs.fitting.shape_fits.Goals as goal
 
 -- what holds of those before i, and of the one at i

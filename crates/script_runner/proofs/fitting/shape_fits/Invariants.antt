@@ -1,5 +1,4 @@
-use Rattle.std.proofs.Common.{◌≡◌, ◌<◌, ◌≤◌, ℕ, List, length, slice_get, Some}
-use Rattle.papi_base.specs.Widths.{AreWidths}
+use Rattle.script_runner.proofs.Words.{◌≡◌, ◌<◌, ◌≤◌, ℕ, List, length, slice_get, Some, AreWidths}
 use Rattle.script_runner.proofs.fitting.shape_fits.Given as goal
 
 abbrev pub invariant-loop-comp : goal.invariant-loop-comp

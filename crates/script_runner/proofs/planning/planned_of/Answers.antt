@@ -1,7 +1,5 @@
-use Rattle.std.proofs.Common.{◌∙◌, ap, sym}
-use Rattle.thread_registry.specs.Plans.{planned_by}
+use Rattle.script_runner.proofs.Words.{◌∙◌, ap, sym, planned_by, setting_of}
 use Rattle.call_type.specs.declared.call.Asked.TheVariants as asked
-use Rattle.script_runner.specs.Resolving.{setting_of}
 use Rattle.script_runner.proofs.planning.planned_of.Goals as goal
 
 pub returns-in-NameOf-clause-planned : goal.returns-in-NameOf-clause-planned

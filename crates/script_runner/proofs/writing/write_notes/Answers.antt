@@ -1,9 +1,4 @@
-use Rattle.std.proofs.Common.{get_or, rules, string_bytes}
-use Rattle.std.proofs.lemmas.List.{get_or_default}
-use Rattle.std.proofs.lemmas.Result.{on_err_weaker}
-use Rattle.overflow_dispatch.specs.declared.handler.Note.{Note}
-use Rattle.tool_output.specs.Notes.{note_text}
-use Rattle.script_runner.specs.Replies.{notes_text}
+use Rattle.script_runner.proofs.Words.{get_or, rules, string_bytes, get_or_default, on_err_weaker, Note, note_text, notes_text}
 use Rattle.script_runner.proofs.Pieces.{always_on_err, item-part, item-written, last-part, none-part}
 use Rattle.script_runner.proofs.writing.write_notes.Goals as goal
 

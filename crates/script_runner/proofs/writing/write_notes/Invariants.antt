@@ -1,7 +1,4 @@
-use Rattle.std.proofs.Common.{◌≡◌, string_bytes, take}
-use Rattle.std.specs.List.{flat_map}
-use Rattle.tool_output.specs.Notes.{note_text}
-use Rattle.script_runner.specs.Pieces.{IsWrittenSoFar}
+use Rattle.script_runner.proofs.Words.{◌≡◌, string_bytes, take, flat_map, note_text, IsWrittenSoFar}
 use Rattle.script_runner.proofs.writing.write_notes.Given as goal
 
 abbrev pub invariant-loop-note : goal.invariant-loop-note

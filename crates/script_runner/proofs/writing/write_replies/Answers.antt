@@ -1,7 +1,4 @@
-use Rattle.std.proofs.Common.{rules, string_bytes, sym}
-use Rattle.std.proofs.lemmas.Option.{get_or_from_slice_get}
-use Rattle.std.proofs.lemmas.Result.{on_err_weaker}
-use Rattle.script_runner.specs.Replies.{replies_text, reply_line_text}
+use Rattle.script_runner.proofs.Words.{rules, string_bytes, sym, get_or_from_slice_get, on_err_weaker, replies_text, reply_line_text}
 use Rattle.script_runner.proofs.Pieces.{always_on_err, item-part, item-written, last-part, none-part}
 use Rattle.script_runner.proofs.writing.write_replies.Goals as goal
 

@@ -1,7 +1,4 @@
-use Rattle.std.proofs.Common.{◌≡◌, string_bytes, take}
-use Rattle.std.specs.List.{flat_map}
-use Rattle.script_runner.specs.Pieces.{IsWrittenSoFar}
-use Rattle.script_runner.specs.Replies.{reply_line_text}
+use Rattle.script_runner.proofs.Words.{◌≡◌, string_bytes, take, flat_map, IsWrittenSoFar, reply_line_text}
 use Rattle.script_runner.proofs.writing.write_replies.Given as goal
 
 abbrev pub invariant-loop-i : goal.invariant-loop-i

@@ -1,6 +1,4 @@
-use Rattle.std.proofs.Common.{map}
-use Rattle.papi_base.proofs.Growing.{number_more}
-use Rattle.soak_input.specs.Script.{call_lines}
+use Rattle.soak_input.proofs.Words.{map, number_more, call_lines}
 use Rattle.soak_input.proofs.script.push_by_thread.Goals as goal
 
 pub loop-thread-preserved : goal.loop-thread-preserved

@@ -1,7 +1,4 @@
-use Rattle.std.proofs.Common.{◌≡◌, ◌++◌, map}
-use Rattle.std.specs.Prelude.{string_bytes}
-use Rattle.std.specs.List.{flat_map, range_with_len}
-use Rattle.soak_input.specs.Script.{call_lines}
+use Rattle.soak_input.proofs.Words.{◌≡◌, ◌++◌, map, string_bytes, flat_map, range_with_len, call_lines}
 use Rattle.soak_input.proofs.script.push_by_thread.Given as goal
 
 abbrev pub invariant-loop-thread : goal.invariant-loop-thread

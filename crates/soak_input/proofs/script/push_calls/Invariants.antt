@@ -1,6 +1,4 @@
-use Rattle.std.proofs.Common.{◌≡◌, ◌++◌, map, take}
-use Rattle.std.specs.Prelude.{string_bytes}
-use Rattle.soak_input.specs.Script.{call_lines}
+use Rattle.soak_input.proofs.Words.{◌≡◌, ◌++◌, map, take, string_bytes, call_lines}
 use Rattle.soak_input.proofs.script.push_calls.Given as goal
 
 abbrev pub invariant-loop-call : goal.invariant-loop-call

@@ -1,5 +1,4 @@
-use Rattle.papi_base.proofs.Growing.{number_more}
-use Rattle.soak_input.specs.Script.{by_thread, round}
+use Rattle.soak_input.proofs.Words.{number_more, by_thread, round}
 use Rattle.soak_input.proofs.script.push_rounds.Goals as goal
 
 pub loop-round-preserved : goal.loop-round-preserved

@@ -1,7 +1,4 @@
-use Rattle.std.proofs.Common.{◌≡◌, ◌++◌}
-use Rattle.std.specs.Prelude.{string_bytes}
-use Rattle.std.specs.List.{flat_map, range_with_len}
-use Rattle.soak_input.specs.Script.{by_thread, round}
+use Rattle.soak_input.proofs.Words.{◌≡◌, ◌++◌, string_bytes, flat_map, range_with_len, by_thread, round}
 use Rattle.soak_input.proofs.script.push_rounds.Given as goal
 
 abbrev pub invariant-loop-round : goal.invariant-loop-round

@@ -1,8 +1,4 @@
-use Rattle.std.specs.Prelude.{FitsSigned}
-use Rattle.std.specs.Int.{int_wrapping_add}
-use Rattle.std.proofs.Common.{◌∙◌, ap, rules, to_z, w64}
-use Rattle.std.proofs.lemmas.Int.{to_z-of_z}
-use Rattle.papi_base.proofs.Steps.{drop_at}
+use Rattle.soak_input.proofs.Words.{FitsSigned, int_wrapping_add, ◌∙◌, ap, rules, to_z, w64, to_z-of_z, drop_at}
 use Rattle.soak_input.proofs.Sums.{added_more}
 use Rattle.soak_input.proofs.summary.add_values.Goals as goal
 

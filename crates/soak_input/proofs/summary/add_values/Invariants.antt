@@ -1,5 +1,4 @@
-use Rattle.std.proofs.Common.{◌≡◌, drop}
-use Rattle.soak_input.specs.Summary.{add_values}
+use Rattle.soak_input.proofs.Words.{◌≡◌, drop, add_values}
 use Rattle.soak_input.proofs.summary.add_values.Given as goal
 
 abbrev pub invariant-loop-i : goal.invariant-loop-i

@@ -1,6 +1,4 @@
-use Rattle.std.proofs.Common.{◌≡◌, ◌++◌, take}
-use Rattle.std.specs.Prelude.{string_bytes}
-use Rattle.soak_input.specs.Summary.{values_text}
+use Rattle.soak_input.proofs.Words.{◌≡◌, ◌++◌, take, string_bytes, values_text}
 use Rattle.soak_input.proofs.summary.push_values.Given as goal
 
 abbrev pub invariant-loop-i : goal.invariant-loop-i

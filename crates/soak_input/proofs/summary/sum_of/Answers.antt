@@ -1,9 +1,5 @@
 use Rattle.std.specs.Prelude.{FitsSigned, ℤ}
-use Rattle.std.proofs.Common.{arith, rules, to_z, w64}
-use Rattle.std.proofs.lemmas.Int.{to_z-of_z}
-use Rattle.papi_base.proofs.Steps.{drop_item}
-use Rattle.soak_input.specs.Summary.{add_values}
-use Rattle.soak_input.specs.declared.summary.ThreadTotal.{ThreadTotal}
+use Rattle.soak_input.proofs.Words.{arith, rules, to_z, w64, to_z-of_z, drop_item, add_values, ThreadTotal}
 use Rattle.soak_input.proofs.Sums.{added_more}
 use Rattle.soak_input.proofs.summary.sum_of.Goals as goal
 

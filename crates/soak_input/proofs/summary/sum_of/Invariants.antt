@@ -1,5 +1,4 @@
-use Rattle.std.proofs.Common.{◌≡◌, drop, fold}
-use Rattle.soak_input.specs.Summary.{add_values, sum_of}
+use Rattle.soak_input.proofs.Words.{◌≡◌, drop, fold, add_values, sum_of}
 use Rattle.soak_input.proofs.summary.sum_of.Given as goal
 
 abbrev pub invariant-loop-total : goal.invariant-loop-total

@@ -1,7 +1,4 @@
-use Rattle.std.specs.Prelude.{FitsSigned}
-use Rattle.std.proofs.Common.{◌∙◌, arith, rules, w64}
-use Rattle.std.proofs.lemmas.Int.{to_z-of_z}
-use Rattle.soak_input.specs.Summary.{thread_lines}
+use Rattle.soak_input.proofs.Words.{FitsSigned, ◌∙◌, arith, rules, w64, to_z-of_z, thread_lines}
 use Rattle.soak_input.proofs.Pieces.{summed, thread_more}
 use Rattle.soak_input.proofs.summary.summary_text.Goals as goal
 

@@ -1,7 +1,4 @@
-use Rattle.std.proofs.Common.{◌≡◌, ◌≤◌, ◌<◌, ◌-◌, ◌^◌, take, true}
-use Rattle.std.specs.List.{list_all}
-use Rattle.std.specs.Str.Parse.{digits_value}
-use Rattle.papi_base.specs.Numerals.{is_digit}
+use Rattle.stream_reader.proofs.Words.{◌≡◌, ◌≤◌, ◌<◌, ◌-◌, ◌^◌, take, true, list_all, digits_value, is_digit}
 use Rattle.stream_reader.proofs.common_line.decimal_digits.Given as goal
 
 abbrev pub invariant-loop-size : goal.invariant-loop-size

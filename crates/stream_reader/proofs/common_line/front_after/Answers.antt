@@ -1,5 +1,4 @@
-use Rattle.std.proofs.Common.{arith}
-use Rattle.std.proofs.lemmas.List.{take_rest}
+use Rattle.stream_reader.proofs.Words.{arith, take_rest}
 use Rattle.stream_reader.proofs.WholeLines.{front}
 use Rattle.stream_reader.proofs.common_line.front_after.Goals as goal
 

@@ -1,5 +1,4 @@
-use Rattle.std.proofs.Common.{◌≡◌, ◌∙◌, ◌+◌, ◌*◌, ◌==◌, Some, get_or, sym, ap, arith}
-use Rattle.stream_reader.specs.ByteTables.{digit_or_256, mode_or_256}
+use Rattle.stream_reader.proofs.Words.{◌≡◌, ◌∙◌, ◌+◌, ◌*◌, ◌==◌, Some, get_or, sym, ap, arith, digit_or_256, mode_or_256}
 use Rattle.stream_reader.proofs.LineHeads.{are-bytes, is-byte, is-mode}
 use Rattle.stream_reader.proofs.common_line.read_head.Goals as goal
 

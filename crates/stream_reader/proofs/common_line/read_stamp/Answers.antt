@@ -1,5 +1,4 @@
-use Rattle.std.proofs.Common.{sym, arith}
-use Rattle.std.proofs.lemmas.List.{take_rest}
+use Rattle.stream_reader.proofs.Words.{sym, arith, take_rest}
 use Rattle.stream_reader.proofs.Stamps.{stamp-is}
 use Rattle.stream_reader.proofs.common_line.read_stamp.Goals as goal
 

@@ -1,5 +1,4 @@
-use Rattle.std.proofs.Common.{◌<◌, ◌≤◌, arith}
-use Rattle.std.proofs.lemmas.List.{take_rest}
+use Rattle.stream_reader.proofs.Words.{◌<◌, ◌≤◌, arith, take_rest}
 use Rattle.stream_reader.proofs.WholeLines.{begins-2}
 use Rattle.stream_reader.proofs.common_line.stamped_line.Goals as goal
 

@@ -1,10 +1,5 @@
-use Rattle.std.proofs.Common.{◌≡◌, ◌∙◌, ◌≤◌, ◌+◌, ◌-◌, false, List, ℕ, refl, sym, ap, subst, arith, length, take, drop}
-use Rattle.std.proofs.lemmas.List.{length-take-le}
-use Rattle.stream_reader.specs.declared.feeding.FirstLine.{FirstLine}
-use Rattle.stream_reader.specs.Feeding.{IsFirstLine}
-use Rattle.stream_reader.specs.Lines.{Line}
-use Rattle.stream_reader.specs.Judged.{judged}
-use Rattle.stream_reader.specs.Occurs.{is_bad}
+use Rattle.stream_reader.proofs.Words.{◌≡◌, ◌∙◌, ◌≤◌, ◌+◌, ◌-◌, false, List, ℕ, refl, sym, ap, subst, arith, length, take, drop, length-take-le}
+use Rattle.stream_reader.proofs.Words.{FirstLine, IsFirstLine, Line, judged, is_bad}
 use Rattle.stream_reader.proofs.Growing.{Passing, judged-short, not-bad, passing-bad, passing-ends, passing-on, rest-is}
 use Rattle.stream_reader.proofs.Taking.{flag-is}
 use Rattle.stream_reader.proofs.feeding.pass_lines.Goals as goal

@@ -1,5 +1,4 @@
-use Rattle.std.proofs.Common.{sym}
-use Rattle.std.proofs.lemmas.List.{take_rest}
+use Rattle.stream_reader.proofs.Words.{sym, take_rest}
 use Rattle.stream_reader.proofs.Rests.{after_more, after_none}
 use Rattle.stream_reader.proofs.field.after_field.Goals as goal
 

@@ -1,7 +1,4 @@
-use Rattle.std.proofs.Common.{◌≡◌, ◌∙◌, ◌<◌, ℕ, Option, IfSome, false, get_or, subst, sym, arith, rules}
-use Rattle.std.proofs.lemmas.Bool.Decides.{nat_tests}
-use Rattle.papi_base.specs.Numerals.{is_digit}
-use Rattle.stream_reader.specs.Fields.{digits_on}
+use Rattle.stream_reader.proofs.Words.{◌≡◌, ◌∙◌, ◌<◌, ℕ, Option, IfSome, false, get_or, subst, sym, arith, rules, nat_tests, is_digit, digits_on}
 use Rattle.stream_reader.proofs.DecimalBytes.{digit}
 use Rattle.stream_reader.proofs.FieldSteps.{at-space, at-end, at-other, at-digit, too-large}
 use Rattle.stream_reader.proofs.field.digits.Goals as goal

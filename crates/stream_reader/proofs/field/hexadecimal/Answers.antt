@@ -1,7 +1,4 @@
-use Rattle.std.proofs.Common.{◌≡◌, ◌∙◌, sym, arith, get_or, inl, inr, length, rules}
-use Rattle.std.proofs.lemmas.Bool.{ltb-true}
-use Rattle.std.proofs.lemmas.Bool.Decides.{nat_tests}
-use Rattle.papi_base.specs.Numerals.{is_hex_digit}
+use Rattle.stream_reader.proofs.Words.{◌≡◌, ◌∙◌, sym, arith, get_or, inl, inr, length, rules, ltb-true, nat_tests, is_hex_digit}
 use Rattle.stream_reader.proofs.FieldSteps.{Ends, at-digit, at-end, at-space}
 use Rattle.stream_reader.proofs.Hexadecimals.{Stops, digit-some, digit-no-space, digit-none, hex-few, hex-small, hex-stops, hex-within}
 use Rattle.stream_reader.proofs.field.hexadecimal.Goals as goal

@@ -1,5 +1,4 @@
-use Rattle.std.proofs.Common.{◌≡◌, ◌≤◌, ◌<◌, ◌+◌, ◌-◌, ◌^◌, length, drop}
-use Rattle.stream_reader.specs.Fields.{hex_on, first_field}
+use Rattle.stream_reader.proofs.Words.{◌≡◌, ◌≤◌, ◌<◌, ◌+◌, ◌-◌, ◌^◌, length, drop, hex_on, first_field}
 use Rattle.stream_reader.proofs.field.hexadecimal.Given as goal
 
 abbrev pub invariant-loop-size : goal.invariant-loop-size

@@ -1,5 +1,4 @@
-use Rattle.std.proofs.Common.{◌∙◌, sym, ap, arith}
-use Rattle.std.proofs.lemmas.Bool.Decides.{nat_tests}
+use Rattle.stream_reader.proofs.Words.{◌∙◌, sym, ap, arith, nat_tests}
 use Rattle.stream_reader.proofs.Modes.{no_mode, some_mode, mode_byte}
 use Rattle.stream_reader.proofs.field.mode.Goals as goal
 

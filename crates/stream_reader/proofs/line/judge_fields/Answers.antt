@@ -1,7 +1,5 @@
-use Rattle.std.proofs.Common.{◌≡◌, ◌∙◌, sym, ap, refl, true, false}
+use Rattle.stream_reader.proofs.Words.{◌≡◌, ◌∙◌, sym, ap, refl, true, false, Bad, Occurs, is_next_stamp, occurrence_judged}
 use Rattle.papi_base.specs.declared.occurrence.LineCause.TheVariants as cause
-use Rattle.stream_reader.specs.declared.line.Judgement.TheVariants.{Bad, Occurs}
-use Rattle.stream_reader.specs.Judged.{is_next_stamp, occurrence_judged}
 use Rattle.stream_reader.proofs.Judging.{judged-some, judged-none}
 use Rattle.stream_reader.proofs.line.judge_fields.Goals as goal
 

@@ -1,7 +1,4 @@
-use Rattle.std.proofs.Common.{◌≡◌, ◌∙◌, ◌+◌, ◌==◌, ap, sym, arith, take}
-use Rattle.std.specs.List.{count_by}
-use Rattle.std.proofs.lemmas.List.{take_all}
-use Rattle.std.proofs.lemmas.List.Splits.{length-slice_split}
+use Rattle.stream_reader.proofs.Words.{◌≡◌, ◌∙◌, ◌+◌, ◌==◌, ap, sym, arith, take, count_by, take_all, length-slice_split}
 use Rattle.stream_reader.proofs.line.number_of_fields.Goals as goal
 
 pub returns : goal.returns

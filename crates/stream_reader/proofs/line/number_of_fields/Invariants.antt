@@ -1,5 +1,4 @@
-use Rattle.std.proofs.Common.{◌≡◌, ◌≤◌, ◌==◌, take}
-use Rattle.std.specs.List.{count_by}
+use Rattle.stream_reader.proofs.Words.{◌≡◌, ◌≤◌, ◌==◌, take, count_by}
 use Rattle.stream_reader.proofs.line.number_of_fields.Given as goal
 
 abbrev pub invariant-loop-byte : goal.invariant-loop-byte

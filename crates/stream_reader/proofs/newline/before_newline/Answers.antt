@@ -1,7 +1,5 @@
-use Rattle.std.proofs.Common.{◌≡◌, ◌∙◌, ◌==◌, ℕ, List, length, take, sym, ap, arith, w8}
-use Rattle.std.proofs.lemmas.Simd.{bitmask_splat, leading_from_mask_l, trailing_mask_l}
-use Rattle.std.proofs.lemmas.List.{length-take-le}
-use lib.Count.{count_trailing_zeros}
+use Rattle.stream_reader.proofs.Words.{◌≡◌, ◌∙◌, ◌==◌, ℕ, List, length, take, sym, ap, arith, w8, bitmask_splat, leading_from_mask_l, trailing_mask_l}
+use Rattle.stream_reader.proofs.Words.{length-take-le, count_trailing_zeros}
 use Rattle.stream_reader.proofs.newline.before_newline.Goals as goal
 
 pub returns-then-newlines-eq0 : goal.returns-then-newlines-eq0

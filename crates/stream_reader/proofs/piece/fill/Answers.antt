@@ -1,7 +1,4 @@
-use Rattle.std.proofs.Common.{◌∙◌, arith, subst, sym, IfSome, ℕ, List}
-use Rattle.std.proofs.lemmas.Slice.{take-put_mid_below}
-use Rattle.std.specs.Option.{option_and_then}
-use Rattle.papi_base.specs.Outside.{Gives}
+use Rattle.stream_reader.proofs.Words.{◌∙◌, arith, subst, sym, IfSome, ℕ, List, take-put_mid_below, option_and_then, Gives}
 use Rattle.stream_reader.proofs.Room.{drop-put_end, length-put_end, part-long}
 use Rattle.stream_reader.proofs.piece.fill.Goals as goal
 

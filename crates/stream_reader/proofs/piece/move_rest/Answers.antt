@@ -1,6 +1,4 @@
-use Rattle.std.proofs.Common.{◌≡◌, ◌∙◌, ◌+◌, ◌-◌, ap, sym, drop, ◌≤◌, take, arith, length, length-drop}
-use Rattle.std.proofs.lemmas.List.Edits.{take-paste}
-use Rattle.std.proofs.Math.Seq.{paste}
+use Rattle.stream_reader.proofs.Words.{◌≡◌, ◌∙◌, ◌+◌, ◌-◌, ap, sym, drop, ◌≤◌, take, arith, length, length-drop, take-paste, paste}
 use Rattle.stream_reader.proofs.piece.move_rest.Goals as goal
 
 pub returns : goal.returns

@@ -1,8 +1,5 @@
-use Rattle.std.proofs.Common.{◌≡◌, ◌∙◌, Some, None, sym, refl}
-use Rattle.csv.specs.Records.{fields_of}
-use Rattle.table_rows.specs.Texts.{text_at, trimmed, without_front}
+use Rattle.table_rows.proofs.Words.{◌≡◌, ◌∙◌, Some, None, sym, refl, fields_of, text_at, trimmed, without_front, slice_get}
 use Rattle.table_rows.proofs.Trimming.{field_at-slice_get}
-use Rattle.std.specs.Prelude.{slice_get}
 use Rattle.table_rows.proofs.field.text_at.Goals as goal
 
 pub returns-in-Some : goal.returns-in-Some

@@ -1,6 +1,4 @@
-use Rattle.std.proofs.Common.{◌≡◌, ◌∙◌, ◌-◌, List, ℕ, [], take, sym, ap, refl, arith}
-use Rattle.std.specs.Prelude.{reverse}
-use Rattle.table_rows.specs.Texts.{without_front}
+use Rattle.table_rows.proofs.Words.{◌≡◌, ◌∙◌, ◌-◌, List, ℕ, [], take, sym, ap, refl, arith, reverse, without_front}
 use Rattle.table_rows.proofs.Trimming.{back-blank, back-plain, front-none}
 use Rattle.table_rows.proofs.field.without_back.Goals as goal
 

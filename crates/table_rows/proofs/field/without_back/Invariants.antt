@@ -1,6 +1,4 @@
-use Rattle.std.proofs.Common.{◌≡◌, ◌≤◌, length, take}
-use Rattle.std.specs.Prelude.{reverse}
-use Rattle.table_rows.specs.Texts.{without_front}
+use Rattle.table_rows.proofs.Words.{◌≡◌, ◌≤◌, length, take, reverse, without_front}
 use Rattle.table_rows.proofs.field.without_back.Given as goal
 
 abbrev pub invariant-loop-n : goal.invariant-loop-n

@@ -1,6 +1,4 @@
-use Rattle.std.proofs.Common.{◌∙◌, ◌-◌, length, drop, sym, ap, arith, length-drop}
-use Rattle.std.proofs.lemmas.List.{take_all, drop_all}
-use Rattle.table_rows.specs.Texts.{without_front}
+use Rattle.table_rows.proofs.Words.{◌∙◌, ◌-◌, length, drop, sym, ap, arith, length-drop, take_all, drop_all, without_front}
 use Rattle.table_rows.proofs.Trimming.{front-blank, front-plain, front-none}
 use Rattle.table_rows.proofs.field.without_front.Goals as goal
 

@@ -1,5 +1,4 @@
-use Rattle.std.proofs.Common.{◌≡◌, drop}
-use Rattle.table_rows.specs.Texts.{without_front}
+use Rattle.table_rows.proofs.Words.{◌≡◌, drop, without_front}
 use Rattle.table_rows.proofs.field.without_front.Given as goal
 
 abbrev pub invariant-loop-i : goal.invariant-loop-i

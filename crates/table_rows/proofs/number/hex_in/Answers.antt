@@ -1,8 +1,4 @@
-use Rattle.std.proofs.Common.{◌≡◌, ◌∙◌, true, length, sym, arith}
-use Rattle.std.specs.Prelude.{nat_le}
-use Rattle.std.proofs.lemmas.Bool.{le-leb}
-use Rattle.std.specs.List.{list_all}
-use Rattle.table_rows.specs.Texts.{hex_in, is_hex_digit}
+use Rattle.table_rows.proofs.Words.{◌≡◌, ◌∙◌, true, length, sym, arith, nat_le, le-leb, list_all, hex_in, is_hex_digit}
 use Rattle.table_rows.proofs.Numerals.{hex-utf8, hex-parsed}
 use Rattle.table_rows.proofs.number.hex_in.Goals as goal
 

@@ -1,5 +1,4 @@
-use Rattle.std.proofs.Common.{◌≡◌, take}
-use Rattle.std.specs.Str.Parse.{digits_value}
+use Rattle.table_rows.proofs.Words.{◌≡◌, take, digits_value}
 use Rattle.table_rows.proofs.number.numeral_value.Given as goal
 
 abbrev pub invariant-loop-byte : goal.invariant-loop-byte

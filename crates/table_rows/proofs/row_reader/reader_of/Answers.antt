@@ -1,6 +1,4 @@
-use Rattle.std.proofs.Common.{ap₂}
-use Rattle.table_rows.specs.Reader.{rows_from}
-use Rattle.table_rows.specs.Rows.{rows_of}
+use Rattle.table_rows.proofs.Words.{ap₂, rows_from, rows_of}
 use Rattle.table_rows.proofs.row_reader.reader_of.Goals as goal
 
 pub returns-clause-all : goal.returns-clause-all

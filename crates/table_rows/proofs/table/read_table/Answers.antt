@@ -1,6 +1,4 @@
-use Rattle.std.proofs.Common.{◌≡◌, ◌∷◌, [], map, ap, arith, length}
-use Rattle.csv.specs.Records.{fields_of}
-use Rattle.table_rows.specs.Rows.{rows_of}
+use Rattle.table_rows.proofs.Words.{◌≡◌, ◌∷◌, [], map, ap, arith, length, fields_of, rows_of}
 use Rattle.table_rows.proofs.PlainFields.{rows-plain}
 use Rattle.table_rows.proofs.TablesRead.{after-row, all-taken, none-taken}
 use Rattle.table_rows.proofs.table.read_table.Goals as goal

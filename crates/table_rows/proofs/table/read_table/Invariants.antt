@@ -1,6 +1,4 @@
-use Rattle.std.proofs.Common.{◌+◌, ◌≤◌, length, map}
-use Rattle.std.specs.List.{AllByRecursion}
-use Rattle.table_rows.specs.Rows.{IsReadRow, rows_of}
+use Rattle.table_rows.proofs.Words.{◌+◌, ◌≤◌, length, map, AllByRecursion, IsReadRow, rows_of}
 use Rattle.table_rows.proofs.TablesRead.{Taken}
 use Rattle.table_rows.proofs.table.read_table.Given as goal
 

@@ -1,6 +1,5 @@
 -- those that are left have one that runs if all do
-use Rattle.thread_core.proofs.Words.{list_any, slot_faces, drop, ◌≡◌}
-use Rattle.session_model.specs.Faces.{is_running}
+use Rattle.thread_core.proofs.Words.{list_any, slot_faces, drop, ◌≡◌, is_running}
 use Rattle.thread_core.proofs.refusal.some_is_running.Given as goal
 
 abbrev pub invariant-loop-place : goal.invariant-loop-place

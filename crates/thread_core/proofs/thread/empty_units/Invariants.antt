@@ -1,5 +1,4 @@
-use Rattle.thread_core.proofs.Words.{◌++◌, map, empty_unit, drop, ◌≡◌, ℕ, List, ◌<◌, slice_get, Some, length, ◌≤◌, AreWidths}
-use Rattle.std.proofs.Common.{vec_capacity, vec_len}
+use Rattle.thread_core.proofs.Words.{◌++◌, map, empty_unit, drop, ◌≡◌, ℕ, List, ◌<◌, slice_get, Some, length, ◌≤◌, AreWidths, vec_capacity, vec_len}
 use Rattle.thread_core.proofs.thread.empty_units.Given as goal
 
 abbrev pub invariant-loop-comp : goal.invariant-loop-comp

@@ -1,5 +1,4 @@
-use Rattle.std.proofs.Common.{rules, refl, get_or}
-use Rattle.call_type.specs.declared.call.Call.TheVariants.{Register}
+use Rattle.thread_registry.proofs.Words.{rules, refl, get_or, Register}
 use Rattle.thread_registry.proofs.Going.{begun-of-part, going-more, going-cut, going-end, refused-of, refused-to-of-cut}
 use Rattle.thread_registry.proofs.job.make_calls.Goals as goal
 

@@ -1,5 +1,4 @@
-use Rattle.std.proofs.Common.{false}
-use Rattle.thread_registry.specs.JobView.{seen_of}
+use Rattle.thread_registry.proofs.Words.{false, seen_of}
 use Rattle.thread_registry.proofs.Going.{Going}
 use Rattle.thread_registry.proofs.job.make_calls.Given as goal
 

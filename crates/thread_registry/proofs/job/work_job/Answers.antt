@@ -1,5 +1,4 @@
-use Rattle.std.proofs.Common.{refl, rules, ap, subst}
-use Rattle.thread_registry.specs.OpenedJobs.{IsOpenedForCalls, session_of}
+use Rattle.thread_registry.proofs.Words.{refl, rules, ap, subst, IsOpenedForCalls, session_of}
 use Rattle.thread_registry.proofs.Going.{ran-by, worked-same}
 use Rattle.thread_registry.proofs.job.work_job.Goals as goal
 

@@ -1,5 +1,4 @@
-use Rattle.std.proofs.Common.{◌≡◌, take}
-use Rattle.thread_registry.specs.Load.{load_of}
+use Rattle.thread_registry.proofs.Words.{◌≡◌, take, load_of}
 use Rattle.thread_registry.proofs.load.load_of.Given as goal
 
 abbrev pub invariant-loop-call : goal.invariant-loop-call

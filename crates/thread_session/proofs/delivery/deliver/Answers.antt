@@ -1,5 +1,4 @@
-use Rattle.std.proofs.Common.{arith, ap, ◌∙◌}
-use Rattle.std.specs.Prelude.{unwrap_or}
+use Rattle.thread_session.proofs.Words.{arith, ap, ◌∙◌, unwrap_or}
 use Rattle.thread_session.proofs.Delivering.{cut_off, fewer_left, next_left, one_note}
 use Rattle.thread_session.proofs.delivery.deliver.Goals as goal
 

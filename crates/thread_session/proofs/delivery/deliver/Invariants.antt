@@ -1,5 +1,4 @@
-use Rattle.std.proofs.Common.{◌≡◌, ◌++◌, drop, map, take}
-use Rattle.session_model.specs.Thresholds.{note}
+use Rattle.thread_session.proofs.Words.{◌≡◌, ◌++◌, drop, map, take, note}
 use Rattle.thread_session.proofs.delivery.deliver.Given as goal
 
 abbrev pub invariant-loop-told : goal.invariant-loop-told

@@ -1,7 +1,5 @@
-use Rattle.std.proofs.Common.{arith, ap, ◌∙◌, ◌+◌}
+use Rattle.thread_session.proofs.Words.{arith, ap, ◌∙◌, ◌+◌, length-set, drop-set-lt, note}
 use Rattle.std.specs.Prelude.{length, unwrap_or}
-use Rattle.std.proofs.lemmas.List.{length-set, drop-set-lt}
-use Rattle.session_model.specs.Thresholds.{note}
 use Rattle.thread_session.proofs.Delivering.{fewer_left, next_left, one_note}
 use Rattle.thread_session.proofs.Rooms.{one_place}
 use Rattle.thread_session.proofs.filling.place.Goals as goal

@@ -1,5 +1,4 @@
-use Rattle.std.proofs.Common.{◌≡◌, ◌++◌, ◌+◌, drop, length, map, take}
-use Rattle.session_model.specs.Thresholds.{note}
+use Rattle.thread_session.proofs.Words.{◌≡◌, ◌++◌, ◌+◌, drop, length, map, take, note}
 use Rattle.thread_session.proofs.filling.place.Given as goal
 
 abbrev pub invariant-loop-i : goal.invariant-loop-i

@@ -1,6 +1,5 @@
-use Rattle.thread_slots.proofs.Words.{FitsSigned, rules, ◌+◌, ◌++◌, ◌∙◌, ap, ap₂, sym, refl, arith, w64, take, drop, to_z-of_z, sums}
-use Rattle.std.proofs.lemmas.List.{append-nil, drop-set-lt, drop_all, length-set, take_all, take_more_set}
-use Rattle.std.specs.Int.{int_wrapping_add}
+use Rattle.thread_slots.proofs.Words.{FitsSigned, rules, ◌+◌, ◌++◌, ◌∙◌, ap, ap₂, sym, refl, arith, w64, take, drop, to_z-of_z, sums, append-nil}
+use Rattle.thread_slots.proofs.Words.{drop-set-lt, drop_all, length-set, take_all, take_more_set, int_wrapping_add}
 use Rattle.thread_slots.proofs.Searching.{both_more}
 use Rattle.thread_slots.proofs.accumulating.add.Goals as goal
 

@@ -1,6 +1,5 @@
 -- if at most one place so far has the select code, it is the one that is kept
-use Rattle.std.proofs.Common.{ℕ, ◌≡◌, ◌<◌, ◌≤◌, Some, slice_get}
-use Rattle.papi_base.specs.declared.native.Native.{Native}
+use Rattle.thread_slots.proofs.Words.{ℕ, ◌≡◌, ◌<◌, ◌≤◌, Some, slice_get, Native}
 use Rattle.thread_slots.proofs.counting.coded_places.Given as goal
 
 abbrev pub invariant-loop-i : goal.invariant-loop-i

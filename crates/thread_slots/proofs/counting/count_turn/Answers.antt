@@ -1,9 +1,6 @@
-use Rattle.thread_slots.proofs.Words.{◌≡◌, ◌+◌, ◌≤◌, ℕ, List, length, refl, ap, sym, ◌∙◌, arith, option_copied, get_or, get_or_from_slice_get, with_turn, slice_get, slice_get_within, Some, Native}
-use Rattle.std.proofs.Common.{◌<◌, ◌-◌}
-use Rattle.std.proofs.lemmas.Grind.{common_steps, elements}
-use Rattle.std.proofs.lemmas.List.{take_all, drop_all, append-nil, length-set}
-use Rattle.multiplex.specs.Rotations.{IsSpanOf}
-use Rattle.thread_slots.specs.Coded.{AreCoded}
+use Rattle.thread_slots.proofs.Words.{◌≡◌, ◌+◌, ◌≤◌, ℕ, List, length, refl, ap, sym, ◌∙◌, arith, option_copied, get_or, get_or_from_slice_get}
+use Rattle.thread_slots.proofs.Words.{with_turn, slice_get, slice_get_within, Some, Native, ◌<◌, ◌-◌, common_steps, elements, take_all, drop_all}
+use Rattle.thread_slots.proofs.Words.{append-nil, length-set, IsSpanOf, AreCoded}
 use Rattle.thread_slots.proofs.Turning.{length-with_turn, turn_put, turns_skip}
 use Rattle.thread_slots.proofs.counting.count_turn.Goals as goal
 

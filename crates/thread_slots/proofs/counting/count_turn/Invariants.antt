@@ -1,5 +1,4 @@
-use Rattle.thread_slots.proofs.Words.{◌≡◌, ◌++◌, ◌≤◌, ℕ, get_or, List, length, take, drop, option_copied, with_turn}
-use Rattle.multiplex.specs.Rotations.{IsSpanOf}
+use Rattle.thread_slots.proofs.Words.{◌≡◌, ◌++◌, ◌≤◌, ℕ, get_or, List, length, take, drop, option_copied, with_turn, IsSpanOf}
 use Rattle.thread_slots.proofs.counting.count_turn.Given as goal
 
 abbrev pub invariant-loop-i : goal.invariant-loop-i

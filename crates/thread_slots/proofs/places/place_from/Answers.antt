@@ -1,5 +1,4 @@
-use Rattle.thread_slots.proofs.Words.{◌≡◌, false, sym, ◌∙◌, arith, same_native}
-use Rattle.papi_base.proofs.Steps.{found_later}
+use Rattle.thread_slots.proofs.Words.{◌≡◌, false, sym, ◌∙◌, arith, same_native, found_later}
 use Rattle.thread_slots.proofs.places.place_from.Goals as goal
 
 pub loop-i-preserved : goal.loop-i-preserved

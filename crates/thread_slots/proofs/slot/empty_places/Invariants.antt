@@ -1,5 +1,4 @@
-use Rattle.std.proofs.Common.{◌≡◌, ◌≤◌, replicate, vec_capacity, vec_len, None}
-use Rattle.papi_base.specs.declared.limits.TheConstants.{MOST_SETS}
+use Rattle.thread_slots.proofs.Words.{◌≡◌, ◌≤◌, replicate, vec_capacity, vec_len, None, MOST_SETS}
 use Rattle.thread_slots.proofs.slot.empty_places.Given as goal
 
 abbrev pub invariant-loop : goal.invariant-loop

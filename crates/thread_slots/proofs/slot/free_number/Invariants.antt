@@ -1,5 +1,4 @@
-use Rattle.std.proofs.Common.{◌≡◌, ◌+◌, drop}
-use Rattle.session_model.specs.Faces.{free}
+use Rattle.thread_slots.proofs.Words.{◌≡◌, ◌+◌, drop, free}
 use Rattle.thread_slots.proofs.slot.free_number.Given as goal
 
 abbrev pub invariant-loop-place : goal.invariant-loop-place

@@ -1,7 +1,5 @@
-use Rattle.std.proofs.Common.{ℕ, ◌<◌, ap, sym, subst, ◌∙◌, arith, Some, None, slice_get, length, get_or}
-use Rattle.std.proofs.lemmas.Option.{get_or_from_slice_get}
-use Rattle.papi_base.proofs.InPlace.{in_place_put, in_place_skip, number_at}
-use Rattle.thread_slots.specs.Pinned.{place_of_lead}
+use Rattle.thread_slots.proofs.Words.{ℕ, ◌<◌, ap, sym, subst, ◌∙◌, arith, Some, None, slice_get, length, get_or, get_or_from_slice_get, in_place_put}
+use Rattle.thread_slots.proofs.Words.{in_place_skip, number_at, place_of_lead}
 use Rattle.thread_slots.proofs.Beginning.{all_armed, armed-none, armed-some, armed_whole, at_threshold, length-all_armed, none_armed, none_at}
 use Rattle.thread_slots.proofs.Lists.{get_at}
 use Rattle.thread_slots.proofs.starting.armed_on.Goals as goal

@@ -1,6 +1,4 @@
-use Rattle.thread_slots.proofs.Words.{◌≡◌, map, take, pos, length, get_or}
-use Rattle.postfix_rules.specs.declared.derived.TheConstants.{MOST_NATIVES}
-use Rattle.thread_slots.specs.Numbers.{numbers_at}
+use Rattle.thread_slots.proofs.Words.{◌≡◌, map, take, pos, length, get_or, MOST_NATIVES, numbers_at}
 use Rattle.thread_slots.proofs.values.own_numbers.Given as goal
 
 abbrev pub invariant-loop-i : goal.invariant-loop-i

@@ -1,8 +1,6 @@
-use Rattle.thread_slots.proofs.Words.{◌≡◌, FitsSigned, List, ℕ, rules, ◌+◌, ◌++◌, ◌∷◌, [], ap, sym, ◌∙◌, arith, w64, drop, take, length, length-append, to_z-of_z, event_value, number_in}
-use Rattle.std.proofs.Common.{◌-◌}
-use Rattle.std.proofs.lemmas.List.{drop-drop, length-drop, take_all}
-use Rattle.thread_slots.specs.EventPlaces.{places_of, places_of_event}
-use Rattle.thread_slots.specs.Numbers.{numbers_at}
+use Rattle.thread_slots.proofs.Words.{◌≡◌, FitsSigned, List, ℕ, rules, ◌+◌, ◌++◌, ◌∷◌, [], ap, sym, ◌∙◌, arith, w64, drop, take, length}
+use Rattle.thread_slots.proofs.Words.{length-append, to_z-of_z, event_value, number_in, ◌-◌, drop-drop, length-drop, take_all, places_of}
+use Rattle.thread_slots.proofs.Words.{places_of_event, numbers_at}
 use Rattle.thread_slots.proofs.Lists.{drop_at}
 use Rattle.thread_slots.proofs.Reading.{next_inside, next_rest, next_value}
 use Rattle.thread_slots.proofs.Searching.{map_more}

@@ -1,10 +1,6 @@
-use Rattle.thread_slots.proofs.Words.{◌≡◌, FitsSigned, Some, rules, ◌+◌, ◌++◌, ◌∷◌, [], List, ℕ, ap, sym, ◌∙◌, arith, w64, drop, take, map, length, slice_get, to_z-of_z, event_value, number_in}
-use Rattle.std.proofs.Common.{◌-◌, ◌<◌}
-use Rattle.std.specs.Prelude.{ℤ}
-use Rattle.std.proofs.lemmas.List.{drop-drop, drop-set-lt, length-drop, length-set, take_all, take_more_set}
-use Rattle.papi_base.proofs.Steps.{take_at}
-use Rattle.thread_slots.specs.EventPlaces.{places_of, places_of_event}
-use Rattle.thread_slots.specs.Numbers.{numbers_at}
+use Rattle.thread_slots.proofs.Words.{◌≡◌, FitsSigned, Some, rules, ◌+◌, ◌++◌, ◌∷◌, [], List, ℕ, ap, sym, ◌∙◌, arith, w64, drop, take, map, length}
+use Rattle.thread_slots.proofs.Words.{slice_get, to_z-of_z, event_value, number_in, ◌-◌, ◌<◌, ℤ, drop-drop, drop-set-lt, length-drop, length-set}
+use Rattle.thread_slots.proofs.Words.{take_all, take_more_set, take_at, places_of, places_of_event, numbers_at}
 use Rattle.thread_slots.proofs.Lists.{drop_at, get-map_some}
 use Rattle.thread_slots.proofs.Reading.{next_inside, next_rest, next_value}
 use Rattle.thread_slots.proofs.values.write_values.Goals as goal

@@ -1,6 +1,4 @@
-use Rattle.thread_slots.proofs.Words.{◌≡◌, ◌≤◌, length, map, drop, take, event_value, number_in}
-use Rattle.thread_slots.specs.EventPlaces.{places_of}
-use Rattle.thread_slots.specs.Numbers.{numbers_at}
+use Rattle.thread_slots.proofs.Words.{◌≡◌, ◌≤◌, length, map, drop, take, event_value, number_in, places_of, numbers_at}
 use Rattle.thread_slots.proofs.values.write_values.Given as goal
 
 abbrev pub invariant-loop-i : goal.invariant-loop-i

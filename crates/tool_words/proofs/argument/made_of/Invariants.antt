@@ -1,6 +1,4 @@
-use Rattle.std.proofs.Common.{◌≡◌, map, take}
-use Rattle.clap.specs.Words.{rule_of}
-use Rattle.tool_words.specs.Arguments.{rule}
+use Rattle.tool_words.proofs.Words.{◌≡◌, map, take, rule_of, rule}
 use Rattle.tool_words.proofs.argument.made_of.Given as goal
 
 abbrev pub invariant-loop-argument : goal.invariant-loop-argument

@@ -1,6 +1,4 @@
-use Rattle.std.proofs.Common.{◌∙◌, List, ap, map}
-use Rattle.std.proofs.lemmas.Result.{IfOk-weaker}
-use Rattle.clap.specs.Words.{App, Rule, rule_of}
+use Rattle.tool_words.proofs.Words.{◌∙◌, List, ap, map, IfOk-weaker, App, Rule, rule_of}
 use Rattle.tool_words.proofs.ArgumentLemmas.{added_in_turn, simple_rules, with_rules}
 use Rattle.tool_words.proofs.matches.command_with.Goals as goal
 

@@ -1,6 +1,4 @@
-use Rattle.std.proofs.Common.{List, map}
-use Rattle.std.specs.Prelude.{string_bytes}
-use Rattle.clap.specs.Words.{Text, app_of}
+use Rattle.tool_words.proofs.Words.{List, map, string_bytes, Text, app_of}
 use Rattle.tool_words.proofs.FormLemmas.{refused, simple_too}
 use Rattle.tool_words.proofs.matches.matches_in.Goals as goal
 

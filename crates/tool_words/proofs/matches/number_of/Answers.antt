@@ -1,10 +1,6 @@
-use Rattle.std.proofs.Common.{◌≡◌, ◌∙◌, Option, Some, None, refl, ap}
-use Rattle.std.specs.Prelude.{option_and_then}
-use Rattle.std.specs.Str.Parse.{ExplainsUnsignedError, HasUnsignedDigitsIfOk, ParsesUnsigned}
-use Rattle.clap.proofs.WalkLemmas.{one_text-rows}
-use Rattle.clap.specs.Words.{Text, found_of, one_text}
+use Rattle.tool_words.proofs.Words.{◌≡◌, ◌∙◌, Option, Some, None, refl, ap, option_and_then, ExplainsUnsignedError, HasUnsignedDigitsIfOk}
+use Rattle.tool_words.proofs.Words.{ParsesUnsigned, one_text-rows, Text, found_of, one_text, unsigned_of}
 use Rattle.tool_words.proofs.NumberLemmas.{reads_unsigned}
-use Rattle.tool_words.specs.Numbers.{unsigned_of}
 use Rattle.tool_words.proofs.matches.number_of.Goals as goal
 
 pub returns : goal.returns

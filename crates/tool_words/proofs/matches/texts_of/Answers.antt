@@ -1,6 +1,4 @@
-use Rattle.std.proofs.Common.{◌∙◌}
-use Rattle.clap.proofs.WalkLemmas.{raw_values-rows}
-use Rattle.clap.specs.Words.{found_of}
+use Rattle.tool_words.proofs.Words.{◌∙◌, raw_values-rows, found_of}
 use Rattle.tool_words.proofs.matches.texts_of.Goals as goal
 
 pub returns : goal.returns

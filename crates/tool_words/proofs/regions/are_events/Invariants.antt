@@ -1,6 +1,4 @@
-use Rattle.std.proofs.Common.{◌≡◌, drop, map}
-use Rattle.std.specs.List.{list_all}
-use Rattle.tool_words.specs.EventList.{is_event}
+use Rattle.tool_words.proofs.Words.{◌≡◌, drop, map, list_all, is_event}
 use Rattle.tool_words.proofs.regions.are_events.Given as goal
 
 abbrev pub invariant-loop-text : goal.invariant-loop-text

@@ -1,7 +1,4 @@
-use Rattle.std.proofs.Common.{◌<◌, arith}
-use Rattle.std.proofs.lemmas.Iterator.Consumers.{map_from_collect}
-use Rattle.std.proofs.lemmas.Iterator.Splits.{YieldsList-from_str_split}
-use Rattle.tool_words.specs.EventList.{parts_of}
+use Rattle.tool_words.proofs.Words.{◌<◌, arith, map_from_collect, YieldsList-from_str_split, parts_of}
 use Rattle.tool_words.proofs.regions.parts_of.Goals as goal
 
 pub returns : goal.returns

@@ -1,10 +1,6 @@
-use Rattle.std.proofs.Common.{◌≡◌, ◌∙◌, Err, List, ap, map, rules}
-use Rattle.std.specs.Prelude.{string_bytes}
-use Rattle.clap.specs.Words.{Rule, Text, app_of, found_of, is_simple_and_free, rows_of}
+use Rattle.tool_words.proofs.Words.{◌≡◌, ◌∙◌, Err, List, ap, map, rules, string_bytes, Rule, Text, app_of, found_of, is_simple_and_free, rows_of}
+use Rattle.tool_words.proofs.Words.{rule, app_with, Argument}
 use Rattle.tool_words.proofs.FormLemmas.{answers_fault, answers_matches}
-use Rattle.tool_words.specs.Arguments.{rule}
-use Rattle.tool_words.specs.Words.{app_with}
-use Rattle.tool_words.specs.declared.argument.Argument.{Argument}
 use Rattle.tool_words.proofs.tool.read_tool.Goals as goal
 
 pub command_with-requires : goal.command_with-requires

@@ -1,9 +1,5 @@
-use Rattle.std.proofs.Common.{◌∙◌, rules, tests}
-use Rattle.std.specs.Prelude.{string_bytes}
-use Rattle.std.specs.Str.{bytes_eq}
-use Rattle.std.proofs.lemmas.Iterator.{YieldsList-from_slice}
-use Rattle.std.proofs.lemmas.Iterator.Search.{position_from_yields_List}
-use Rattle.user_events.specs.Events.{EventView, event_view}
+use Rattle.user_events.proofs.Words.{◌∙◌, rules, tests, string_bytes, bytes_eq, YieldsList-from_slice, position_from_yields_List, EventView}
+use Rattle.user_events.proofs.Words.{event_view}
 use Rattle.user_events.proofs.Putting.{position-map}
 use Rattle.user_events.proofs.event.place_of.Goals as goal
 

@@ -1,8 +1,4 @@
-use Rattle.std.proofs.Common.{◌∙◌, List, map, sym, ap}
-use Rattle.std.specs.Prelude.{position}
-use Rattle.table_rows.specs.Texts.{Text}
-use Rattle.user_events.specs.Events.{event_view}
-use Rattle.user_events.specs.declared.event.UserEvent.{UserEvent}
+use Rattle.user_events.proofs.Words.{◌∙◌, List, map, sym, ap, position, Text, event_view, UserEvent}
 use Rattle.user_events.proofs.Putting.{is_named, put-found, put-new}
 use Rattle.user_events.proofs.event.put_event.Goals as goal
 

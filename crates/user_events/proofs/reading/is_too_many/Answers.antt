@@ -1,6 +1,5 @@
-use Rattle.std.proofs.Common.{◌∙◌, sym, ap}
+use Rattle.user_events.proofs.Words.{◌∙◌, sym, ap, MOST_USER_EVENTS}
 use Rattle.std.specs.Prelude.{◌&&◌, nat_le, Bool, length}
-use Rattle.user_events.specs.declared.event.TheConstants.{MOST_USER_EVENTS}
 use Rattle.user_events.proofs.TakingRow.{too-many}
 use Rattle.user_events.proofs.reading.is_too_many.Goals as goal
 

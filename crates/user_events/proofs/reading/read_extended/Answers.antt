@@ -1,6 +1,4 @@
-use Rattle.std.proofs.Common.{◌≡◌, ◌∙◌, Err, rules}
-use Rattle.user_events.specs.Reading.{taking}
-use Rattle.user_events.specs.Rows.{extended_fault}
+use Rattle.user_events.proofs.Words.{◌≡◌, ◌∙◌, Err, rules, taking, extended_fault}
 use Rattle.user_events.proofs.Taking.{extended-is, extended-kept}
 use Rattle.user_events.proofs.reading.read_extended.Goals as goal
 

@@ -1,16 +1,5 @@
-use Rattle.std.proofs.Common.{◌≡◌, ◌∙◌, true, List, map, sym, ap, subst}
-use Rattle.std.proofs.lemmas.Result.{err_from_is_err_and}
-use Rattle.csv.specs.Records.{fields_of}
-use Rattle.papi_base.proofs.Steps.{is_given, not_given}
-use Rattle.table_rows.specs.Texts.{Text, text_at}
-use Rattle.preset_csv.specs.Lines.{derivation_of}
-use Rattle.preset_csv.specs.Steps.{Judges}
-use Rattle.user_events.specs.Entries.{event_judged}
-use Rattle.user_events.specs.Events.{event_view, names_of}
-use Rattle.user_events.specs.Names.{is_event_name}
-use Rattle.user_events.specs.Rows.{is_too_many}
-use Rattle.user_events.specs.Steps.{put_event}
-use Rattle.user_events.specs.declared.event.UserEvent.{UserEvent}
+use Rattle.user_events.proofs.Words.{◌≡◌, ◌∙◌, true, List, map, sym, ap, subst, err_from_is_err_and, fields_of, is_given, not_given, Text, text_at}
+use Rattle.user_events.proofs.Words.{derivation_of, Judges, event_judged, event_view, names_of, is_event_name, is_too_many, put_event, UserEvent}
 use Rattle.user_events.proofs.TakingRow.{bad-name, event-refused, event-taken, name-printable, over-taken}
 use Rattle.user_events.proofs.reading.take_event.Goals as goal
 use Rattle.user_events.proofs.reading.take_event.Goals.{After-is_too_many}

@@ -1,7 +1,4 @@
-use Rattle.std.proofs.Common.{◌∙◌, sym, ap, refl, subst}
-use Rattle.table_rows.specs.Texts.{Text}
-use Rattle.preset_csv.specs.Written.{table_text}
-use Rattle.user_events.specs.Written.{ReadsBack}
+use Rattle.user_events.proofs.Words.{◌∙◌, sym, ap, refl, subst, Text, table_text, ReadsBack}
 use Rattle.user_events.proofs.ExtendedBack.{reads-back}
 use Rattle.user_events.proofs.WrittenRows.{begun, ended, one-more}
 use Rattle.user_events.proofs.writing.write_extended.Goals as goal

@@ -1,11 +1,7 @@
-use Rattle.std.proofs.Common.{◌∙◌, ◌≡◌, ap, subst, sym, map}
-use Rattle.preset_csv.specs.Tables.{IsTable, TableView}
-use Rattle.user_events.specs.Events.{EventView, IsExtended, event_view}
+use Rattle.component_table.proofs.Words.{◌∙◌, ◌≡◌, ap, subst, sym, map, IsTable, TableView, EventView, IsExtended, event_view, events_from, PRESETS}
 use Rattle.std.specs.Prelude.{List}
-use Rattle.component_table.specs.Books.{events_from}
 use Rattle.component_table.proofs.KeptEvents.{kept-extended}
 use Rattle.component_table.proofs.catalog.Catalog.only_available.Goals as goal
-use Rattle.preset_csv.specs.declared.symbols.TheConstants.{PRESETS}
 
 pub new-requires : goal.new-requires
 new-requires c =

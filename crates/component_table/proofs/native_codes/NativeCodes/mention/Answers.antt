@@ -1,6 +1,4 @@
-use Rattle.std.proofs.Common.{◌∙◌}
-use Rattle.postfix_rules.proofs.Equal.{native_self}
-use Rattle.postfix_rules.proofs.AllFields.{natives_same}
+use Rattle.component_table.proofs.Words.{◌∙◌, native_self, natives_same}
 use Rattle.component_table.proofs.Mentions.{code-mentioned, mentioned-by}
 use Rattle.component_table.proofs.native_codes.NativeCodes.mention.Goals as goal
 

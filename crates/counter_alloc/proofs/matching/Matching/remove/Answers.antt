@@ -1,8 +1,5 @@
 -- the places that are left have moved down, and keep their counters
-use Rattle.std.proofs.Common.{◌≡◌, ℕ, ◌-◌, ◌<◌, take, arith, ap, ap₂, subst, ◌∙◌}
-use Rattle.std.specs.Prelude.{remove}
-use Rattle.std.proofs.lemmas.Grind.{elements}
-use Rattle.counter_alloc.specs.Matchings.{MatchingView}
+use Rattle.counter_alloc.proofs.Words.{◌≡◌, ℕ, ◌-◌, ◌<◌, take, arith, ap, ap₂, subst, ◌∙◌, remove, elements, MatchingView}
 use Rattle.counter_alloc.proofs.Removal.{Closing, closing_all, kept_places}
 use Rattle.counter_alloc.proofs.matching.Matching.remove.Goals as goal
 

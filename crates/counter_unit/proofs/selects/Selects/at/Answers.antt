@@ -1,10 +1,6 @@
-use Rattle.std.proofs.Common.{◌≡◌, Bool, true, false, refl, ap, ap₂, sym, ◌∙◌, arith, bit_and}
-use Rattle.std.specs.Prelude.{◌&&◌, if◌then◌else◌, min}
-use Rattle.std.specs.Int.{bit_at}
-use Rattle.std.proofs.lemmas.Nat.Bits.{bit_at_and}
+use Rattle.counter_unit.proofs.Words.{◌≡◌, Bool, true, false, refl, ap, ap₂, sym, ◌∙◌, arith, bit_and, ◌&&◌, if◌then◌else◌, min, bit_at, bit_at_and}
+use Rattle.counter_unit.proofs.Words.{at_place, bit_of, has, mode_of}
 use Rattle.counter_unit.specs.declared.selects.Key.TheVariants as key
-use Rattle.counter_unit.specs.Counting.{at_place}
-use Rattle.counter_unit.specs.Selects.{bit_of, has, mode_of}
 use Rattle.counter_unit.proofs.selects.Selects.at.Goals as goal
 use Rattle.counter_unit.proofs.selects.Selects.at.Goals.{then-o, else-o}
 

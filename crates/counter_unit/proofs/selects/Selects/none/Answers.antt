@@ -1,8 +1,5 @@
 use Rattle.counter_unit.specs.declared.selects.Key.TheVariants as key
-use Rattle.std.proofs.Common.{ap, sym, ◌∙◌}
-use Rattle.std.proofs.lemmas.Nat.Bits.{bit_at-zero}
-use Rattle.counter_unit.specs.Modes.{is_modified}
-use Rattle.counter_unit.specs.Selects.{bit_of}
+use Rattle.counter_unit.proofs.Words.{ap, sym, ◌∙◌, bit_at-zero, is_modified, bit_of}
 use Rattle.counter_unit.proofs.Places.{at_place-replicate}
 use Rattle.counter_unit.proofs.Tables.{AreMarked-none}
 use Rattle.counter_unit.proofs.selects.Selects.none.Goals as goal

@@ -1,6 +1,5 @@
 use Rattle.counter_unit.specs.declared.selects.Key.TheVariants as key
-use Rattle.std.proofs.Common.{ap, ◌∙◌}
-use Rattle.counter_unit.specs.Selects.{bit_of}
+use Rattle.counter_unit.proofs.Words.{ap, ◌∙◌, bit_of}
 use Rattle.counter_unit.proofs.Tables.{AreMarked-at, AreMarked-put, modified_put}
 use Rattle.counter_unit.proofs.selects.Selects.put.Goals as goal
 

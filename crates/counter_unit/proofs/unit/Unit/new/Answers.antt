@@ -1,6 +1,4 @@
-use Rattle.std.proofs.Common.{arith, length, refl, Option, None}
-use Rattle.std.proofs.lemmas.List.{take-replicate, length-replicate}
-use Rattle.counter_unit.specs.declared.registers.Register.{Register}
+use Rattle.counter_unit.proofs.Words.{arith, length, refl, Option, None, take-replicate, length-replicate, Register}
 use Rattle.counter_unit.proofs.Places.{FitWidths-empty}
 use Rattle.counter_unit.proofs.unit.Unit.new.Goals as goal
 

@@ -1,7 +1,4 @@
-use Rattle.std.proofs.Common.{◌≡◌, ◌<◌, ap, arith, length, take, set, ◌∙◌, None}
-use Rattle.std.proofs.Math.Seq.{take-set-lt}
-use Rattle.std.proofs.lemmas.List.{get_or-take, length-set}
-use Rattle.counter_unit.specs.Counting.{UnitView}
+use Rattle.counter_unit.proofs.Words.{◌≡◌, ◌<◌, ap, arith, length, take, set, ◌∙◌, None, take-set-lt, get_or-take, length-set, UnitView}
 use Rattle.counter_unit.proofs.Places.{FitWidths-put}
 use Rattle.counter_unit.proofs.unit.Unit.put.Goals as goal
 

@@ -1,7 +1,4 @@
-use Rattle.std.proofs.Common.{◌≡◌, ◌≤◌, ◌^◌, ◌∙◌, get_or, ap, subst, arith}
-use Rattle.std.proofs.Math.Pow.{pow_mono}
-use Rattle.papi_base.specs.declared.limits.TheConstants.{MOST_WIDTH}
-use Rattle.counter_unit.specs.Counting.{UnitView, FitsWidth}
+use Rattle.counter_unit.proofs.Words.{◌≡◌, ◌≤◌, ◌^◌, ◌∙◌, get_or, ap, subst, arith, pow_mono, MOST_WIDTH, UnitView, FitsWidth}
 use Rattle.counter_unit.proofs.unit.Unit.register.Goals as goal
 
 pub returns-in-Some-clause-small : goal.returns-in-Some-clause-small

@@ -1,10 +1,5 @@
-use Rattle.std.proofs.Common.{◌≡◌, ℕ, get_or, length, List, None, take, refl, ap, sym, ◌∙◌, arith}
-use Rattle.std.specs.Option.{option_copied}
-use Rattle.std.proofs.Math.Seq.{take-set-lt}
-use Rattle.std.proofs.lemmas.List.{get_or-take, length-set}
-use Rattle.counter_unit.specs.Counting.{After, UnitView, at_place, moved_place}
-use Rattle.counter_unit.specs.Modes.{added, weight_at}
-use Rattle.counter_unit.specs.Selects.{bit_of}
+use Rattle.counter_unit.proofs.Words.{◌≡◌, ℕ, get_or, length, List, None, take, refl, ap, sym, ◌∙◌, arith, option_copied, take-set-lt, get_or-take}
+use Rattle.counter_unit.proofs.Words.{length-set, After, UnitView, at_place, moved_place, added, weight_at, bit_of}
 use Rattle.counter_unit.proofs.Places.{FitWidths-moved}
 use Rattle.counter_unit.proofs.Tables.{AreSelects-moved}
 use Rattle.counter_unit.proofs.Steps.{all_carried, all_done, begins, goes_on, lowest, lowest_is, moved_is, others-lt}

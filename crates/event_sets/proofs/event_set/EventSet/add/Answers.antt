@@ -1,16 +1,7 @@
 -- what the code finds is what the definition of the refusals says
-use Rattle.std.proofs.Common.{rules}
-use Rattle.std.proofs.lemmas.Bool.Decides.{nat_tests}
-use Rattle.std.proofs.Common.{◌≡◌, false, ℕ, ◌<◌, [], length, arith, refl, sym, ap, ap₂, subst, ◌∙◌, slice_get, Option, Some, None}
-use Rattle.std.specs.Prelude.{IsNone, if◌then◌else◌, is_some}
-use Rattle.counter_alloc.specs.Assignments.{Assignable}
-use Rattle.counter_alloc.specs.Masks.{masks_of}
-use Rattle.postfix_rules.specs.Fitting.{Fits}
-use Rattle.postfix_rules.specs.Presets.{natives_of_event}
-use Rattle.postfix_rules.specs.Sameness.{joined_by}
-use Rattle.event_sets.specs.Assigning.{clash_of}
-use Rattle.event_sets.specs.AtRest.{is_full}
-use Rattle.event_sets.specs.Sets.{IsMatched, IsSound, SetView}
+use Rattle.event_sets.proofs.Words.{rules, nat_tests, ◌≡◌, false, ℕ, ◌<◌, [], length, arith, refl, sym, ap, ap₂, subst, ◌∙◌, slice_get, Option, Some}
+use Rattle.event_sets.proofs.Words.{None, IsNone, if◌then◌else◌, is_some, Assignable, masks_of, Fits, natives_of_event, joined_by, clash_of, is_full}
+use Rattle.event_sets.proofs.Words.{IsMatched, IsSound, SetView}
 use Rattle.event_sets.proofs.JoinedNatives.{joined_grows}
 use Rattle.event_sets.proofs.Agreeing.{numbered}
 use Rattle.event_sets.proofs.Adding.{Ready, added_sound, added_view, pushed, all_in_range, begins, begun_allowed, begun_counters, full_of_natives, not_full, refused_clash, refused_full, taken}

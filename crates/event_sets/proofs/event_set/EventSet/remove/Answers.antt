@@ -1,14 +1,7 @@
 -- the natives of the events that are left are some of those of all
-use Rattle.std.proofs.Common.{arith}
-use Rattle.std.proofs.lemmas.Bool.Decides.{nat_tests}
-use Rattle.std.proofs.Common.{◌≡◌, List, ap, sym, subst, ◌∙◌}
+use Rattle.event_sets.proofs.Words.{arith, nat_tests, ◌≡◌, List, ap, sym, subst, ◌∙◌, Native, Assignable, masks_of, natives_of, set_natives, IsSound}
+use Rattle.event_sets.proofs.Words.{SetView}
 use Rattle.std.specs.Prelude.{remove}
-use Rattle.papi_base.specs.declared.native.Native.{Native}
-use Rattle.counter_alloc.specs.Assignments.{Assignable}
-use Rattle.counter_alloc.specs.Masks.{masks_of}
-use Rattle.postfix_rules.specs.Presets.{natives_of}
-use Rattle.event_sets.specs.AtRest.{set_natives}
-use Rattle.event_sets.specs.Sets.{IsSound, SetView}
 use Rattle.event_sets.proofs.Removed.{left_assignable, left_few, left_in_range, removed, removed_sound}
 use Rattle.event_sets.proofs.event_set.EventSet.remove.Goals as goal
 use Rattle.event_sets.proofs.event_set.EventSet.remove.Goals.{In-Some, After-natives_of_all-natives}

@@ -1,5 +1,4 @@
-use Rattle.std.proofs.Common.{arith}
-use Rattle.std.proofs.lemmas.Bool.Decides.{nat_tests}
+use Rattle.event_sets.proofs.Words.{arith, nat_tests}
 use Rattle.event_sets.proofs.Kept.{domain_sound}
 use Rattle.event_sets.proofs.event_set.EventSet.set_domain.Goals as goal
 

@@ -1,7 +1,4 @@
-use Rattle.std.proofs.Common.{◌≡◌, false, ◌==◌, refl, sym, ◌∙◌, arith}
-use Rattle.std.specs.Prelude.{nat_lt}
-use Rattle.std.proofs.lemmas.Bool.Decides.{nat_tests}
-use Rattle.event_sets.specs.AtRest.{is_bad_slice}
+use Rattle.event_sets.proofs.Words.{◌≡◌, false, ◌==◌, refl, sym, ◌∙◌, arith, nat_lt, nat_tests, is_bad_slice}
 use Rattle.event_sets.proofs.Kept.{sliced_sound}
 use Rattle.event_sets.proofs.event_set.EventSet.set_multiplex.Goals as goal
 

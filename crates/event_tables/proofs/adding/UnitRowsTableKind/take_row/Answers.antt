@@ -1,7 +1,4 @@
-use Rattle.std.proofs.Common.{sym, subst}
-use Rattle.csv.specs.Records.{fields_of}
-use Rattle.event_tables.specs.Kept.{IsLine}
-use Rattle.event_tables.specs.Lines.{line_of}
+use Rattle.event_tables.proofs.Words.{sym, subst, fields_of, IsLine, line_of}
 use Rattle.event_tables.proofs.LinesKept.{line_of-kept}
 use Rattle.event_tables.proofs.Reading.{row-taken}
 use Rattle.event_tables.proofs.adding.UnitRowsTableKind.take_row.Goals as goal

@@ -1,6 +1,4 @@
-use Rattle.std.proofs.Common.{◌≡◌, ◌+◌, ◌<◌, ◌≤◌, length, get_or, ap, rules, arith}
-use Rattle.std.specs.Char.{to_ascii_lowercase}
-use Rattle.std.specs.Prelude.{encode_utf8}
+use Rattle.event_tables.proofs.Words.{◌≡◌, ◌+◌, ◌<◌, ◌≤◌, length, get_or, ap, rules, arith, to_ascii_lowercase, encode_utf8}
 use Rattle.event_tables.proofs.Lowers.{lower-fits, lower-more, lower-small}
 use Rattle.event_tables.proofs.lower_name.LowerName.of_name.Goals as goal
 

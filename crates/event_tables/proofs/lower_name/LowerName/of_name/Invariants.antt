@@ -1,5 +1,4 @@
-use Rattle.std.proofs.Common.{◌≡◌, take}
-use Rattle.std.specs.Str.{str_to_ascii_lowercase}
+use Rattle.event_tables.proofs.Words.{◌≡◌, take, str_to_ascii_lowercase}
 use Rattle.event_tables.proofs.lower_name.LowerName.of_name.Given as goal
 
 abbrev pub invariant-loop-b : goal.invariant-loop-b

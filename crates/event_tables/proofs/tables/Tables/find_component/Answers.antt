@@ -1,6 +1,4 @@
-use Rattle.std.proofs.Common.{◌∙◌, ◌≤◌, length, map, sym, arith}
-use Rattle.event_tables.specs.Tables.{ComponentText, same_name}
-use Rattle.event_tables.specs.Views.{component_text}
+use Rattle.event_tables.proofs.Words.{◌∙◌, ◌≤◌, length, map, sym, arith, ComponentText, same_name, component_text}
 use Rattle.event_tables.proofs.Searches.{position_from-lt}
 use Rattle.event_tables.proofs.tables.Tables.find_component.Goals as goal
 

@@ -1,12 +1,5 @@
-use Rattle.std.proofs.Common.{◌≡◌, ◌∙◌, List, Some, None, sym, ap}
-use Rattle.std.proofs.lemmas.Option.{slice_get-map, slice_get_past}
-use Rattle.std.specs.HashMap.{get_by_text}
-use Rattle.std.specs.Option.{option_and_then}
-use Rattle.std.specs.Prelude.{option_map, slice_get}
-use Rattle.papi_base.proofs.Steps.{all_at}
-use Rattle.event_tables.specs.Index.{IsIndexed}
-use Rattle.event_tables.specs.Tables.{ComponentText, row_of_lower}
-use Rattle.event_tables.specs.Views.{component_text}
+use Rattle.event_tables.proofs.Words.{◌≡◌, ◌∙◌, List, Some, None, sym, ap, slice_get-map, slice_get_past, get_by_text, option_and_then, option_map}
+use Rattle.event_tables.proofs.Words.{slice_get, all_at, IsIndexed, ComponentText, row_of_lower, component_text}
 use Rattle.event_tables.proofs.Items.{item-some}
 use Rattle.event_tables.proofs.tables.Tables.find_event.Goals as goal
 

@@ -1,7 +1,5 @@
 -- the closed form counts the group's ticks
-use Rattle.std.proofs.Common.{◌≡◌, ◌<◌, ap, sym, ◌∙◌}
-use Rattle.multiplex.specs.Rotations.{RotationView}
-use Rattle.multiplex.specs.Turns.{Turns, active}
+use Rattle.multiplex.proofs.Words.{◌≡◌, ◌<◌, ap, sym, ◌∙◌, RotationView, Turns, active}
 use Rattle.multiplex.proofs.Ticks.{active_in_turns}
 use Rattle.multiplex.proofs.rotation.Rotation.active.Goals as goal
 

@@ -1,10 +1,6 @@
 -- a place joins the last group or begins the next one
-use Rattle.std.proofs.Common.{◌≡◌, ◌+◌, ◌<◌, ◌^◌, true, false, ◌++◌, ◌∷◌, [], arith, refl, ap, sym, ◌∙◌, option_map, Some, slice_get, length-append}
-use Rattle.std.proofs.lemmas.Option.{slice_get-map}
-use Rattle.papi_base.specs.declared.native.Native.{Native}
-use Rattle.counter_alloc.specs.Listing.{is_assignable}
-use Rattle.counter_alloc.specs.Masks.{masks_of}
-use Rattle.counter_alloc.proofs.Fitting.{masks_push, mask_small, one_mask}
+use Rattle.multiplex.proofs.Words.{◌≡◌, ◌+◌, ◌<◌, ◌^◌, true, false, ◌++◌, ◌∷◌, [], arith, refl, ap, sym, ◌∙◌, option_map, Some, slice_get}
+use Rattle.multiplex.proofs.Words.{length-append, slice_get-map, Native, is_assignable, masks_of, masks_push, mask_small, one_mask}
 use Rattle.multiplex.proofs.Grouping.{all_at, turn_joins, turn_begins, group_count-push, below_push, ordered_push}
 use Rattle.multiplex.proofs.rotation.Rotation.make.Goals as goal
 use Rattle.multiplex.proofs.rotation.Rotation.make.Goals.{then-not-joins, else-not-joins}

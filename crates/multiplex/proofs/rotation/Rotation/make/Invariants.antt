@@ -1,8 +1,6 @@
 -- the numbers so far, with those of the places that are left, are those of all
-use Rattle.std.proofs.Common.{ℕ, ◌≡◌, ◌<◌, ◌≤◌, ◌+◌, ◌++◌, get_or, length, drop}
-use Rattle.counter_alloc.specs.Masks.{AreMasks, masks_of}
-use Rattle.multiplex.specs.Groups.{groups_from, groups, group_count}
-use Rattle.multiplex.specs.Rotations.{AreOrdered}
+use Rattle.multiplex.proofs.Words.{ℕ, ◌≡◌, ◌<◌, ◌≤◌, ◌+◌, ◌++◌, get_or, length, drop, AreMasks, masks_of, groups_from, groups, group_count}
+use Rattle.multiplex.proofs.Words.{AreOrdered}
 use Rattle.multiplex.proofs.rotation.Rotation.make.Given as goal
 
 abbrev pub invariant-loop-i : goal.invariant-loop-i

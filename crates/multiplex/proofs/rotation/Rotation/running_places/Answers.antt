@@ -1,7 +1,5 @@
 -- a later time in the slice that is kept
-use Rattle.std.proofs.Common.{arith, subst}
-use Rattle.multiplex.specs.Rotations.{IsSpanOf, RotationView}
-use Rattle.multiplex.specs.Turns.{group_at}
+use Rattle.multiplex.proofs.Words.{arith, subst, IsSpanOf, RotationView, group_at}
 use Rattle.multiplex.proofs.Slices.{in_slice}
 use Rattle.multiplex.proofs.rotation.Rotation.running_places.Goals as goal
 

@@ -1,8 +1,5 @@
-use Rattle.std.proofs.Common.{◌≡◌, ◌∙◌, Some, map, option_map, sym, ap, arith}
-use Rattle.std.proofs.lemmas.List.{length-map}
+use Rattle.name_encoder.proofs.Words.{◌≡◌, ◌∙◌, Some, map, option_map, sym, ap, arith, length-map, mask_text, meaning_text}
 use Rattle.std.specs.Prelude.{Option}
-use Rattle.event_tables.specs.Views.{mask_text}
-use Rattle.name_encoder.specs.Judged.{meaning_text}
 use Rattle.name_encoder.specs.declared.attribute.Meaning.{Meaning}
 use Rattle.name_encoder.proofs.Steps.{meaning-row}
 use Rattle.name_encoder.proofs.attribute.Attributes.with.Goals as goal

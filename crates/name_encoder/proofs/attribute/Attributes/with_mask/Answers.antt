@@ -1,5 +1,4 @@
-use Rattle.std.proofs.Common.{arith}
-use Rattle.std.proofs.lemmas.Grind.{elements}
+use Rattle.name_encoder.proofs.Words.{arith, elements}
 use Rattle.name_encoder.proofs.attribute.Attributes.with_mask.Goals as goal
 
 pub returns-then-is_some : goal.returns-then-is_some

@@ -1,44 +1,21 @@
 -- `into_parts` compares the pointer with null, and hands on what it owns.
 use mathlib.Core.Path.{◌≡◌, refl, sym, subst}
-use mathlib.Core.List.{List, [], ◌∷◌, ◌++◌}
-use lib.Dec.{lit<}
-use seplogic.Ra.Ura.{Ura}
+use Rattle.papi_c.proofs.Words.{List, [], ◌∷◌, ◌++◌, lit<, Ura, Val, vstruct, vnull, vcons, vnil, of_list, has_ty, SProp, ent, emp, id⊢, guard_i}
+use Rattle.papi_c.proofs.Words.{ftrue, fsep, Model, WpFn, Logic, sem, live, fact, fact_i, fact_use, Running, MachineTables, tables, Item, Sq, at_ret}
+use Rattle.papi_c.proofs.Words.{prop, ‵, raw, given, learn, ◌⊛◌, ◌$◌, ◌∵◌, !, qed, by, move, keep, drop, use0, use1, split, rewrite, fpick, feq_l}
+use Rattle.papi_c.proofs.Words.{fsplit, fjoin, whole, sub, agg, stop, fld, no_more, and_then, of_opd, bin, lit, first, branches, skips, exec, returns}
+use Rattle.papi_c.proofs.Words.{returns_within, enter, alloc_all, pass_all, free_all, look_at, get, get_in, sets, env, yes, RattleType, Ptr}
+use Rattle.papi_c.proofs.Words.{block_ptr, null_ptr, ptr_val, Testable, tests_null, nothing, Stays, stay_dropped, walk_of, Goes-dropped}
+use Rattle.papi_c.proofs.Words.{dealloc_token-Testable, proved_at, leaves, Some-of, none_of, α, token, handle_tells, after, and_tt, D, B, τ, box_ty}
+use Rattle.papi_c.proofs.Words.{word, box_typed, box_out, box_in, ghosts, ended, clauses}
 use mir.Raw.{raw as bare}
-use mir.Val.{Val, vstruct, vnull, vcons, vnil, of_list, has_ty}
-use base.Logic.{SProp, ent, emp, id⊢, guard_i}
-use base.Fml.{ftrue, fsep}
-use prog.Model.{Model}
-use prog.Wp.{WpFn}
-use types.Logic.{Logic, sem}
-use types.Match.{live}
-use contract.Monad.{fact, fact_i, fact_use}
-use contract.Running.{Running, MachineTables, tables}
-use types.Kit.{Item, Sq, at_ret, prop, ‵, raw, given, learn, ◌⊛◌, ◌$◌, ◌∵◌, !, qed, by, move, keep, drop, use0, use1, split, rewrite, fpick, feq_l, fsplit, fjoin}
-use types.Part.{whole, sub, agg}
-use types.Run.{stop, fld, no_more, and_then, of_opd, bin, lit, first, branches, skips, exec, returns, returns_within, enter}
-use types.ByLocal.{alloc_all, pass_all, free_all, look_at, get, get_in, sets, env}
-use denote.Exit.{yes}
-use denote.RattleType.{RattleType}
-use denote.RawPtr.{Ptr, block_ptr, null_ptr, ptr_val, Testable, tests_null}
-use denote.Steps.{nothing}
-use denote.Triple.Walked.{Stays, stay_dropped, walk_of, Goes-dropped}
 use Rattle.std.specs.Prelude.{Option, None, Some, option_map}
-use Rattle.std.proofs.GlobalToken.{dealloc_token-Testable}
-use Rattle.std.proofs.raw_atomic.Walks.{proved_at, leaves}
 use Rattle.core.specs.contracts.option.Option as OP
-use Rattle.core.proofs.option.Made.{Some-of, none_of}
-use Rattle.core.proofs.alloc.Calls.{α, token, handle_tells}
-use Rattle.core.proofs.alloc.Shapes.{after}
-use Rattle.std_alloc.proofs.ResultValues.{and_tt}
-use Rattle.std_alloc.proofs.BoxSteps.Form.{D, B, τ, box_ty, word, box_typed}
-use Rattle.std_alloc.proofs.BoxSteps.Steps.{box_out, box_in}
 use Rattle.std_heap.specs.contracts.Global as Heap
-use Rattle.std_heap.specs.contracts.GlobalAllocator.TheImpl.{ghosts}
 use Rattle.papi_calls.specs.contracts.library.Library as Library
 use Rattle.papi_c.proofs.AsBox.{E, FromHandle as From}
 use Rattle.papi_c.specs.contracts.parts.Parts as Parts
 use Rattle.papi_c.specs.contracts.handle.Handle as Handle
-use Rattle.papi_c.specs.contracts.handle.Handle.into_parts.{ended, clauses}
 use Rattle.papi_c.specs.contracts.handle.Handle.into_parts.Key.{name as #self}
 use Rattle.papi_c.proofs.handle.Handle.into_parts.Statement.{statement}
 use Rattle.papi_c.proofs.handle.Handle.into_parts.Code as code

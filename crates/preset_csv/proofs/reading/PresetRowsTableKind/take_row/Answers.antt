@@ -1,6 +1,4 @@
-use Rattle.csv.specs.Records.{fields_of}
-use Rattle.preset_csv.specs.Entries.{judged}
-use Rattle.preset_csv.specs.Lines.{line_of}
+use Rattle.preset_csv.proofs.Words.{fields_of, judged, line_of}
 use Rattle.preset_csv.proofs.RowsTaken.{row-taken}
 use Rattle.preset_csv.proofs.TableKept.{length-presets}
 use Rattle.preset_csv.proofs.reading.PresetRowsTableKind.take_row.Goals as goal

@@ -1,7 +1,4 @@
-use Rattle.std.proofs.Common.{map}
-use Rattle.csv.specs.Records.{fields_of}
-use Rattle.profil_hist.specs.Lines.{line_of}
-use Rattle.profil_hist.specs.Views.{range_text}
+use Rattle.profil_hist.proofs.Words.{map, fields_of, line_of, range_text}
 use Rattle.profil_hist.proofs.LinesKept.{line_of-kept}
 use Rattle.profil_hist.proofs.RowsRead.{row-taken}
 use Rattle.profil_hist.proofs.adding.MapRowsTableKind.take_row.Goals as goal

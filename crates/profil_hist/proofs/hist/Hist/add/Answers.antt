@@ -1,6 +1,5 @@
-use Rattle.std.proofs.Common.{◌+◌, ◌<◌, ◌^◌, ◌∷◌, ◌++◌, [], List, sym, ap, subst, arith}
-use Rattle.profil_hist.specs.Counts.{RowText, rows_text}
-use Rattle.profil_hist.specs.Histograms.{HistText, IsHist, IsHistogram, hist_text}
+use Rattle.profil_hist.proofs.Words.{◌+◌, ◌<◌, ◌^◌, ◌∷◌, ◌++◌, [], List, sym, ap, subst, arith, RowText, rows_text, HistText, IsHist, IsHistogram}
+use Rattle.profil_hist.proofs.Words.{hist_text}
 use Rattle.profil_hist.proofs.Noted.{noted-counts, noted-kept, passed-counts, spotted-there}
 use Rattle.profil_hist.proofs.hist.Hist.add.Goals as goal
 

@@ -1,7 +1,4 @@
-use Rattle.std.proofs.Common.{◌∙◌, Option, ℕ, ap}
-use Rattle.std.specs.Prelude.{is_some}
-use Rattle.profil_hist.specs.Counts.{rows_text}
-use Rattle.profil_hist.specs.Histograms.{HistText, bucket_at, has_bucket}
+use Rattle.profil_hist.proofs.Words.{◌∙◌, Option, ℕ, ap, is_some, rows_text, HistText, bucket_at, has_bucket}
 use Rattle.profil_hist.proofs.Fresh.{bucket-there}
 use Rattle.profil_hist.proofs.hist.Hist.bucket.Goals as goal
 

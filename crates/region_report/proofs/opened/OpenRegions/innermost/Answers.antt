@@ -1,5 +1,4 @@
-use Rattle.std.proofs.Common.{arith}
-use Rattle.std.proofs.lemmas.Grind.{elements}
+use Rattle.region_report.proofs.Words.{arith, elements}
 use Rattle.region_report.proofs.opened.OpenRegions.innermost.Goals as goal
 
 pub returns : goal.returns

@@ -1,5 +1,4 @@
-use Rattle.std.proofs.Common.{◌≡◌, ap}
-use Rattle.soak_input.specs.Generator.{draw_at}
+use Rattle.soak_input.proofs.Words.{◌≡◌, ap, draw_at}
 use Rattle.soak_input.proofs.Drawing.{stepped}
 use Rattle.soak_input.proofs.generator.Generator.draw.Goals as goal
 

@@ -1,6 +1,4 @@
-use Rattle.std.proofs.Common.{◌≡◌, drop, take}
-use Rattle.soak_input.specs.Occurrences.{occurrences_after}
-use Rattle.soak_input.specs.Streams.{lines_text}
+use Rattle.soak_input.proofs.Words.{◌≡◌, drop, take, occurrences_after, lines_text}
 use Rattle.soak_input.proofs.Drawing.{front_given}
 use Rattle.soak_input.proofs.source.SoakSource.give.Goals as goal
 

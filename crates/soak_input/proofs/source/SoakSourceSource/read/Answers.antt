@@ -1,5 +1,4 @@
-use Rattle.std.proofs.Common.{◌≡◌, ◌∙◌, ap, arith, sym}
-use Rattle.soak_input.specs.SourceView.{text_left}
+use Rattle.soak_input.proofs.Words.{◌≡◌, ◌∙◌, ap, arith, sym, text_left}
 use Rattle.soak_input.proofs.Drawing.{ended_text, filled_gives, filled_more}
 use Rattle.soak_input.proofs.source.SoakSourceSource.read.Goals as goal
 use Rattle.soak_input.proofs.source.SoakSourceSource.read.Goals.{then-self-len+else-self-eq0, else-self-len}

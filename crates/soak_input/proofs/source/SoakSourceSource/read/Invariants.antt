@@ -1,5 +1,4 @@
-use Rattle.std.proofs.Common.{◌≡◌, ◌≤◌, ◌-◌, ◌++◌, length, take}
-use Rattle.soak_input.specs.SourceView.{text_left}
+use Rattle.soak_input.proofs.Words.{◌≡◌, ◌≤◌, ◌-◌, ◌++◌, length, take, text_left}
 use Rattle.soak_input.proofs.source.SoakSourceSource.read.Given as goal
 
 abbrev pub invariant-loop-filled : goal.invariant-loop-filled

@@ -1,8 +1,5 @@
-use Rattle.std.proofs.Common.{◌≡◌, ◌∙◌, ◌++◌, List, ℕ, sym, ap, ap₂, true}
-use Rattle.papi_base.specs.declared.outside.Ending.TheVariants.{End}
-use Rattle.stream_reader.specs.Feeding.{are_whole, left_start, place_after, unread}
-use Rattle.stream_reader.specs.Lines.{tape_lines}
-use Rattle.stream_reader.specs.Reader.{ReaderView}
+use Rattle.stream_reader.proofs.Words.{◌≡◌, ◌∙◌, ◌++◌, List, ℕ, sym, ap, ap₂, true, End, are_whole, left_start, place_after, unread, tape_lines}
+use Rattle.stream_reader.proofs.Words.{ReaderView}
 use Rattle.stream_reader.proofs.Growing.{grows}
 use Rattle.stream_reader.proofs.feeding.StreamReader+MemSource.feed.Goals as goal
 

@@ -1,6 +1,4 @@
-use Rattle.std.proofs.Common.{sym, subst, arith}
-use Rattle.stream_reader.specs.declared.line.Judgement.TheVariants.{Occurs}
-use Rattle.stream_reader.specs.CommonLines.{HoldsLine}
+use Rattle.stream_reader.proofs.Words.{sym, subst, arith, Occurs, HoldsLine}
 use Rattle.stream_reader.proofs.CommonLines.{holds-line}
 use Rattle.stream_reader.proofs.reader.StreamReader.common_line.Goals as goal
 

@@ -1,8 +1,6 @@
-use Rattle.std.proofs.Common.{◌≡◌, ◌∙◌, ◌≤◌, refl, sym, ap, subst, arith, true, false}
-use Rattle.std.specs.Prelude.{is_some}
+use Rattle.stream_reader.proofs.Words.{◌≡◌, ◌∙◌, ◌≤◌, refl, sym, ap, subst, arith, true, false, is_some, GaveNothing, NextGives, ReaderView, Takes}
+use Rattle.stream_reader.proofs.Words.{coming, faults_of, has_answer, Passes}
 use Rattle.stream_reader.specs.declared.next.Next.TheVariants as next
-use Rattle.stream_reader.specs.Reader.{GaveNothing, NextGives, ReaderView, Takes, coming, faults_of, has_answer}
-use Rattle.stream_reader.specs.Inside.{Passes}
 use Rattle.stream_reader.proofs.Telling.{asked-hand, asked-passes, over-takes, over-told, takes-told}
 use Rattle.stream_reader.proofs.Turning.{passes-after, takes_after}
 use Rattle.stream_reader.proofs.reader.StreamReader.next.Goals as goal

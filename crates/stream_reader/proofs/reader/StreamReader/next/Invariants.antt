@@ -1,7 +1,4 @@
-use Rattle.std.proofs.Common.{◌≡◌, ◌≤◌, true, false}
-use Rattle.std.specs.Prelude.{is_some}
-use Rattle.stream_reader.specs.Reader.{GaveNothing, faults_of, has_answer}
-use Rattle.stream_reader.specs.Inside.{Passes, left_of}
+use Rattle.stream_reader.proofs.Words.{◌≡◌, ◌≤◌, true, false, is_some, GaveNothing, faults_of, has_answer, Passes, left_of}
 use Rattle.stream_reader.proofs.reader.StreamReader.next.Given as goal
 
 abbrev pub invariant-loop-next : goal.invariant-loop-next

@@ -1,7 +1,5 @@
-use Rattle.std.proofs.Common.{◌≡◌, ◌∙◌, ap, arith, drop, subst, sym, IfSome}
+use Rattle.stream_reader.proofs.Words.{◌≡◌, ◌∙◌, ap, arith, drop, subst, sym, IfSome, Gives, tape_after, ReaderView, faults_of}
 use Rattle.std.specs.Option.{is_some, option_map_or}
-use Rattle.papi_base.specs.Outside.{Gives, tape_after}
-use Rattle.stream_reader.specs.Reader.{ReaderView, faults_of}
 use Rattle.stream_reader.proofs.Room.{size_held}
 use Rattle.stream_reader.proofs.Refilling.{refills, view-faults, view-some, view-tape}
 use Rattle.stream_reader.proofs.reader.StreamReader.refill.Goals as goal

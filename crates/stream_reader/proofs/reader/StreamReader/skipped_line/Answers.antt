@@ -1,6 +1,4 @@
-use Rattle.std.proofs.Common.{refl, subst}
-use Rattle.stream_reader.specs.declared.line.Judgement.TheVariants.{Skipped}
-use Rattle.stream_reader.specs.CommonLines.{HoldsLine}
+use Rattle.stream_reader.proofs.Words.{refl, subst, Skipped, HoldsLine}
 use Rattle.stream_reader.proofs.CommonLines.{holds-skipped}
 use Rattle.stream_reader.proofs.reader.StreamReader.skipped_line.Goals as goal
 

@@ -1,6 +1,4 @@
-use Rattle.std.proofs.Common.{rules, arith, ap, sym, get_or, false, ◌-◌}
-use Rattle.std.proofs.lemmas.List.{drop_all}
-use Rattle.session_model.specs.Worlds.{bits_from}
+use Rattle.thread_registry.proofs.Words.{rules, arith, ap, sym, get_or, false, ◌-◌, drop_all, bits_from}
 use Rattle.thread_registry.proofs.Listed.{bits-lower, below-lower, bits-all}
 use Rattle.thread_registry.proofs.registry.Registry.listed.Goals as goal
 

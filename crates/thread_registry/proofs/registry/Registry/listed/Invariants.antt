@@ -1,5 +1,4 @@
-use Rattle.std.proofs.Common.{◌≡◌, ◌<◌, ◌^◌, ◌-◌, drop}
-use Rattle.session_model.specs.Worlds.{bits_from}
+use Rattle.thread_registry.proofs.Words.{◌≡◌, ◌<◌, ◌^◌, ◌-◌, drop, bits_from}
 use Rattle.thread_registry.proofs.registry.Registry.listed.Given as goal
 
 abbrev pub invariant-loop-thread : goal.invariant-loop-thread

@@ -1,6 +1,4 @@
-use Rattle.std.proofs.Common.{rules, arith, refl, get_or, ◌<◌, ◌≤◌}
-use Rattle.std.proofs.lemmas.Grind.{common_steps}
-use Rattle.std.proofs.lemmas.List.{get_or_default}
+use Rattle.thread_registry.proofs.Words.{rules, arith, refl, get_or, ◌<◌, ◌≤◌, common_steps, get_or_default}
 use Rattle.thread_registry.proofs.Dealt.{count-few, count-more, none-counted, one-at-most, some_line}
 use Rattle.thread_registry.proofs.runner.deal.count_calls.Goals as goal
 

@@ -1,5 +1,4 @@
-use Rattle.std.proofs.Common.{◌≡◌, ℕ, ◌<◌, length, take, slice_index_or}
-use Rattle.thread_registry.specs.Plans.{planned_at}
+use Rattle.thread_registry.proofs.Words.{◌≡◌, ℕ, ◌<◌, length, take, slice_index_or, planned_at}
 use Rattle.thread_registry.proofs.runner.deal.count_calls.Given as goal
 
 abbrev pub invariant-loop-line : goal.invariant-loop-line

@@ -1,5 +1,4 @@
-use Rattle.std.proofs.Common.{◌≡◌, ℕ, ◌<◌, [], map, take, slice_index_or, vec_len}
-use Rattle.thread_registry.specs.Plans.{planned_at}
+use Rattle.thread_registry.proofs.Words.{◌≡◌, ℕ, ◌<◌, [], map, take, slice_index_or, vec_len, planned_at}
 use Rattle.thread_registry.proofs.runner.deal.deal.Given as goal
 
 abbrev pub invariant-loop-line : goal.invariant-loop-line

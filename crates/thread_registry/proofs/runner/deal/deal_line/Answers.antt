@@ -1,6 +1,4 @@
-use Rattle.std.proofs.Common.{arith}
-use Rattle.std.proofs.lemmas.Bool.Decides.{nat_tests}
-use Rattle.std.proofs.lemmas.List.{get_or-map, get_or_default}
+use Rattle.thread_registry.proofs.Words.{arith, nat_tests, get_or-map, get_or_default}
 use Rattle.thread_registry.proofs.Dealt.{deal-one, one-call}
 use Rattle.thread_registry.proofs.runner.deal.deal_line.Goals as goal
 

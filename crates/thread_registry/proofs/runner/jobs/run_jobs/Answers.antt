@@ -1,5 +1,4 @@
-use Rattle.std.proofs.Common.{◌<◌, length}
-use Rattle.thread_registry.specs.JobView.{CanWork}
+use Rattle.thread_registry.proofs.Words.{◌<◌, length, CanWork}
 use Rattle.thread_registry.proofs.Outcomes.{left-of, ready-by}
 use Rattle.thread_registry.proofs.runner.jobs.run_jobs.Goals as goal
 

@@ -1,5 +1,4 @@
-use Rattle.std.proofs.Common.{false, arith, ap, ◌∙◌, ◌≡◌, ◌++◌, ◌∷◌, []}
-use Rattle.std.proofs.lemmas.Bool.Decides.{nat_tests}
+use Rattle.thread_registry.proofs.Words.{false, arith, ap, ◌∙◌, ◌≡◌, ◌++◌, ◌∷◌, [], nat_tests}
 use Rattle.thread_registry.proofs.Lists.{all-more, map-push, neither, no-items, put-all, put-more, put-none}
 use Rattle.thread_registry.proofs.runner.lending.put_back.Goals as goal
 

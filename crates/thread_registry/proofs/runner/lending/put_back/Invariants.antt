@@ -1,5 +1,4 @@
-use Rattle.std.proofs.Common.{false, ◌≡◌, ◌+◌, ◌++◌, All, map, reverse, vec_len, vec_capacity}
-use Rattle.thread_registry.specs.OpenedJobs.{session_of}
+use Rattle.thread_registry.proofs.Words.{false, ◌≡◌, ◌+◌, ◌++◌, All, map, reverse, vec_len, vec_capacity, session_of}
 use Rattle.thread_registry.proofs.runner.lending.put_back.Given as goal
 
 abbrev pub invariant-loop-put : goal.invariant-loop-put

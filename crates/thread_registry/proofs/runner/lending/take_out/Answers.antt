@@ -1,11 +1,5 @@
-use Rattle.std.proofs.Common.{arith, subst, ◌∙◌, ◌-◌, ◌+◌, ◌≡◌, ◌<◌, ◌∷◌, [], drop, length, map, vec_len}
-use Rattle.std.proofs.lemmas.Bool.Decides.{nat_tests}
-use Rattle.std.proofs.lemmas.List.{take_all, length-map}
-use Rattle.event_sets.specs.AtRest.{Widths}
-use Rattle.thread_registry.specs.OpenedJobs.{IsOpenedForCalls}
-use Rattle.thread_session.specs.SessionView.{IsFresh}
-use Rattle.thread_registry.specs.Jobs.{before, befores_of}
-use Rattle.thread_registry.specs.Works.{AreWorks, IsWork, calls_of}
+use Rattle.thread_registry.proofs.Words.{arith, subst, ◌∙◌, ◌-◌, ◌+◌, ◌≡◌, ◌<◌, ◌∷◌, [], drop, length, map, vec_len, nat_tests, take_all, length-map}
+use Rattle.thread_registry.proofs.Words.{Widths, IsOpenedForCalls, IsFresh, before, befores_of, AreWorks, IsWork, calls_of}
 use Rattle.thread_registry.proofs.Ends.{drop-cut, front-cut, last-cut, map-at}
 use Rattle.thread_registry.proofs.Lent.{before-drop, befores-few, jobs-more, none-yet, work-found}
 use Rattle.thread_registry.proofs.Lists.{all-empty, all-more}

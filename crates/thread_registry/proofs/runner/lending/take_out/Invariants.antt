@@ -1,8 +1,5 @@
-use Rattle.std.proofs.Common.{◌≡◌, ◌+◌, ◌-◌, All, map, reverse, take, drop, vec_len, vec_capacity}
-use Rattle.event_sets.specs.AtRest.{Widths}
-use Rattle.thread_registry.specs.OpenedJobs.{IsOpenedForCalls, seen}
-use Rattle.thread_registry.specs.Jobs.{befores_of}
-use Rattle.thread_registry.specs.Works.{AreWorks}
+use Rattle.thread_registry.proofs.Words.{◌≡◌, ◌+◌, ◌-◌, All, map, reverse, take, drop, vec_len, vec_capacity, Widths, IsOpenedForCalls, seen}
+use Rattle.thread_registry.proofs.Words.{befores_of, AreWorks}
 use Rattle.thread_registry.proofs.runner.lending.take_out.Given as goal
 
 abbrev pub invariant-loop-taken : goal.invariant-loop-taken

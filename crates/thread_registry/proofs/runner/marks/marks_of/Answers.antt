@@ -1,5 +1,4 @@
-use Rattle.std.proofs.Common.{arith}
-use Rattle.std.proofs.lemmas.Bool.Decides.{nat_tests}
+use Rattle.thread_registry.proofs.Words.{arith, nat_tests}
 use Rattle.thread_registry.proofs.Marked.{none_marked, marked_at}
 use Rattle.thread_registry.proofs.runner.marks.marks_of.Goals as goal
 

@@ -1,5 +1,4 @@
-use Rattle.std.proofs.Common.{◌≡◌, take}
-use Rattle.thread_registry.specs.Marks.{marks_in}
+use Rattle.thread_registry.proofs.Words.{◌≡◌, take, marks_in}
 use Rattle.thread_registry.proofs.runner.marks.marks_of.Given as goal
 
 abbrev pub invariant-loop-i : goal.invariant-loop-i

@@ -1,6 +1,4 @@
-use Rattle.std.proofs.Common.{rules, arith, ◌≡◌, ◌<◌, ◌++◌, ◌∷◌, [], refl, ◌∙◌, ap, get_or, length}
-use Rattle.std.proofs.lemmas.List.{get_or_default}
-use Rattle.thread_registry.specs.Answers.{IsListOf}
+use Rattle.thread_registry.proofs.Words.{rules, arith, ◌≡◌, ◌<◌, ◌++◌, ◌∷◌, [], refl, ◌∙◌, ap, get_or, length, get_or_default, IsListOf}
 use Rattle.thread_registry.proofs.Dealt.{some_line}
 use Rattle.thread_registry.proofs.Lists.{no-items}
 use Rattle.thread_registry.proofs.Merged.{Looks, answered-more, counts-none, counts-step, merged-none, replied-by, whole-step}

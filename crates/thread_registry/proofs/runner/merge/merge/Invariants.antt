@@ -1,7 +1,5 @@
-use Rattle.std.proofs.Common.{◌≡◌, ℕ, ◌++◌, ◌<◌, [], map, drop, length, slice_index_or, replicate, false, vec_len, vec_capacity}
-use Rattle.thread_registry.specs.Answers.{AllAnswered, line_of}
-use Rattle.thread_registry.specs.Plans.{planned_at}
-use Rattle.thread_registry.specs.Merges.{lines_by}
+use Rattle.thread_registry.proofs.Words.{◌≡◌, ℕ, ◌++◌, ◌<◌, [], map, drop, length, slice_index_or, replicate, false, vec_len, vec_capacity}
+use Rattle.thread_registry.proofs.Words.{AllAnswered, line_of, planned_at, lines_by}
 use Rattle.thread_registry.proofs.Merged.{rests}
 use Rattle.thread_registry.proofs.runner.merge.merge.Given as goal
 

@@ -1,7 +1,4 @@
-use Rattle.std.proofs.Common.{arith, rules, ap, refl, sym, subst, ◌∙◌}
-use Rattle.std.proofs.lemmas.List.{length-map}
-use Rattle.thread_registry.specs.Merges.{lines_by}
-use Rattle.thread_registry.specs.Runs.{AreInOrder}
+use Rattle.thread_registry.proofs.Words.{arith, rules, ap, refl, sym, subst, ◌∙◌, length-map, lines_by, AreInOrder}
 use Rattle.thread_registry.proofs.Scripts.{lines-order}
 use Rattle.thread_registry.proofs.Served.{served-as}
 use Rattle.thread_registry.proofs.Worlds.{added-all, added-as, begun-all, begun-as, begun-none, faulty-all, grown-all, grown-none, idle-all, if_ok, kept-all, kept-none, lines-all, lines-as, on_ok, possible-streams, some-streams}

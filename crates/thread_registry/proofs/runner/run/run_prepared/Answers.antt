@@ -1,6 +1,4 @@
-use Rattle.std.proofs.Common.{arith, refl, map, ◌∙◌}
-use Rattle.std.proofs.lemmas.Bool.Decides.{nat_tests}
-use Rattle.std.proofs.lemmas.List.{length-map}
+use Rattle.thread_registry.proofs.Words.{arith, refl, map, ◌∙◌, nat_tests, length-map}
 use Rattle.thread_registry.proofs.Scripts.{lines-threads}
 use Rattle.thread_registry.proofs.Served.{are-served, can-work}
 use Rattle.thread_registry.proofs.Worlds.{counts-all}

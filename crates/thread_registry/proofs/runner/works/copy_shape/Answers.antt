@@ -1,5 +1,4 @@
-use Rattle.std.proofs.Common.{arith}
-use Rattle.std.proofs.lemmas.Bool.Decides.{nat_tests}
+use Rattle.thread_registry.proofs.Words.{arith, nat_tests}
 use Rattle.papi_base.proofs.Steps.{take_at}
 use Rattle.thread_registry.proofs.runner.works.copy_shape.Goals as goal
 

@@ -1,8 +1,5 @@
-use Rattle.std.proofs.Common.{rules, arith, ap, sym, ◌∙◌, map, map-id}
-use Rattle.std.proofs.lemmas.Bool.Decides.{nat_tests}
-use Rattle.std.proofs.lemmas.List.{length_push, map-append}
-use Rattle.std.proofs.lemmas.Iterator.Consumers.{YieldsList-end}
-use Rattle.std.proofs.lemmas.Iterator.Adapters.{YieldsList-from_vec}
+use Rattle.thread_registry.proofs.Words.{rules, arith, ap, sym, ◌∙◌, map, map-id, nat_tests, length_push, map-append, YieldsList-end}
+use Rattle.thread_registry.proofs.Words.{YieldsList-from_vec}
 use Rattle.thread_registry.proofs.Lists.{map-push}
 use Rattle.thread_registry.proofs.OpenedWorks.{work-more}
 use Rattle.thread_registry.proofs.runner.works.open_works.Goals as goal

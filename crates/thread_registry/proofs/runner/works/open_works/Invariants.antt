@@ -1,5 +1,4 @@
-use Rattle.std.proofs.Common.{◌≡◌, length, map, vec_len}
-use Rattle.thread_registry.specs.Works.{AreWorks, calls_of}
+use Rattle.thread_registry.proofs.Words.{◌≡◌, length, map, vec_len, AreWorks, calls_of}
 use Rattle.thread_registry.proofs.runner.works.open_works.Given as goal
 
 abbrev pub invariant-loop-calls : goal.invariant-loop-calls

@@ -1,5 +1,4 @@
-use Rattle.std.proofs.Common.{◌≡◌, ◌≤◌, take}
-use Rattle.thread_registry.specs.Cut.{busy}
+use Rattle.thread_registry.proofs.Words.{◌≡◌, ◌≤◌, take, busy}
 use Rattle.thread_registry.proofs.tasks.cut.count_busy.Given as goal
 
 abbrev pub invariant-loop-task : goal.invariant-loop-task

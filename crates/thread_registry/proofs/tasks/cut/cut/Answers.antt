@@ -1,7 +1,4 @@
-use Rattle.std.proofs.Common.{◌≡◌, ◌+◌, arith, inl, inr, subst, sym, take}
-use Rattle.std.proofs.lemmas.Bool.{cases_lt}
-use Rattle.std.proofs.lemmas.Grind.{common_steps}
-use Rattle.thread_registry.specs.Cut.{GivesEachOne, busy, unevenness}
+use Rattle.thread_registry.proofs.Words.{◌≡◌, ◌+◌, arith, inl, inr, subst, sym, take, cases_lt, common_steps, GivesEachOne, busy, unevenness}
 use Rattle.thread_registry.proofs.tasks.cut.cut.Goals.{then-count-most+then-uneven-least, else-count-most, else-count-most-via-then-count-most+else-uneven-least, else-count-most-via-else-count-most}
 use Rattle.thread_registry.proofs.tasks.cut.cut.Goals as goal
 

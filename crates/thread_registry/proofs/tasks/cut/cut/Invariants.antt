@@ -1,6 +1,4 @@
-use Rattle.std.proofs.Common.{◌≡◌, ◌≤◌, ℕ, take}
-use Rattle.std.specs.List.{sum_by}
-use Rattle.thread_registry.specs.Cut.{GivesEachOne, busy, unevenness}
+use Rattle.thread_registry.proofs.Words.{◌≡◌, ◌≤◌, ℕ, take, sum_by, GivesEachOne, busy, unevenness}
 use Rattle.thread_registry.proofs.tasks.cut.cut.Given as goal
 
 abbrev pub invariant-loop-place : goal.invariant-loop-place

@@ -1,5 +1,4 @@
-use Rattle.std.proofs.Common.{◌≡◌, ◌<◌, ◌≤◌, ℕ, take}
-use Rattle.thread_registry.specs.Cut.{busy}
+use Rattle.thread_registry.proofs.Words.{◌≡◌, ◌<◌, ◌≤◌, ℕ, take, busy}
 use Rattle.thread_registry.proofs.tasks.cut.first_with.Given as goal
 
 abbrev pub invariant-loop-place : goal.invariant-loop-place

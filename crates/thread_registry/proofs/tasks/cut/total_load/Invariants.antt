@@ -1,5 +1,4 @@
-use Rattle.std.proofs.Common.{◌≡◌, ◌≤◌, ◌*◌, take}
-use Rattle.std.specs.List.{sum_by}
+use Rattle.thread_registry.proofs.Words.{◌≡◌, ◌≤◌, ◌*◌, take, sum_by}
 use Rattle.thread_registry.proofs.tasks.cut.total_load.Given as goal
 
 abbrev pub invariant-loop-task : goal.invariant-loop-task

@@ -1,7 +1,4 @@
-use Rattle.std.proofs.Common.{refl, ap, subst}
-use Rattle.std.specs.Prelude.{Ok}
-use Rattle.thread_session.specs.Feeding.{Feeds}
-use Rattle.thread_session.specs.SessionView.{SessionView}
+use Rattle.thread_session.proofs.Words.{refl, ap, subst, Ok, Feeds, SessionView}
 use Rattle.thread_session.proofs.Fed.{feeds}
 use Rattle.thread_session.proofs.feeding.Session+MemSource.feed.Goals as goal
 

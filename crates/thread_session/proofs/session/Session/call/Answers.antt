@@ -1,8 +1,5 @@
-use Rattle.std.proofs.Common.{sym, subst}
+use Rattle.thread_session.proofs.Words.{sym, subst, ReaderView, FaultsKept, fault_count, is_run}
 use Rattle.std.specs.Prelude.{false, ◌≡◌}
-use Rattle.stream_reader.specs.Reader.{ReaderView}
-use Rattle.thread_session.specs.Faults.{FaultsKept, fault_count}
-use Rattle.thread_session.specs.Follows.{is_run}
 use Rattle.thread_session.proofs.Calling.{call_sound, does_follows, does_towards, part_of_call, still_by}
 use Rattle.thread_session.proofs.Endings.{follows_notes}
 use Rattle.thread_session.proofs.Failing.{kept_same}

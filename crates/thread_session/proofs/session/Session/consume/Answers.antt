@@ -1,6 +1,4 @@
-use Rattle.std.proofs.Common.{arith, refl, ap, ◌∙◌}
-use Rattle.papi_base.specs.Streams.{Bad, Dry, Fault}
-use Rattle.thread_session.specs.SessionView.{SessionView}
+use Rattle.thread_session.proofs.Words.{arith, refl, ap, ◌∙◌, Bad, Dry, Fault, SessionView}
 use Rattle.thread_session.proofs.Cuts.{cut_at}
 use Rattle.thread_session.proofs.Endings.{run_short, run_whole, towards_short, towards_whole}
 use Rattle.thread_session.proofs.Results.{on_err}

@@ -1,6 +1,4 @@
-use Rattle.std.proofs.Common.{subst}
-use Rattle.thread_session.specs.Follows.{Does}
-use Rattle.thread_session.specs.SessionView.{SessionView}
+use Rattle.thread_session.proofs.Words.{subst, Does, SessionView}
 use Rattle.thread_session.proofs.Calling.{call_does}
 use Rattle.thread_session.proofs.session.Session.make.Goals as goal
 

@@ -1,8 +1,4 @@
-use Rattle.std.proofs.Common.{ap, subst, ℕ, []}
-use Rattle.papi_base.specs.Streams.{Dry}
-use Rattle.session_model.specs.Account.{opening}
-use Rattle.thread_core.specs.CoreView.{CoreView}
-use Rattle.thread_session.specs.Stands.{Stands}
+use Rattle.thread_session.proofs.Words.{ap, subst, ℕ, [], Dry, opening, CoreView, Stands}
 use Rattle.thread_session.proofs.Opened.{made_new}
 use Rattle.thread_session.proofs.session.Session.new.Goals as goal
 

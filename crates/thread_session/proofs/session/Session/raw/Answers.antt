@@ -1,9 +1,6 @@
-use Rattle.std.proofs.Common.{refl, subst}
+use Rattle.thread_session.proofs.Words.{refl, subst, reply_of, Does, SessionView}
 use Rattle.call_type.specs.declared.call.Call.TheVariants as call
 use Rattle.session_model.specs.declared.reply.Body.TheVariants as body
-use Rattle.thread_core.specs.Following.{reply_of}
-use Rattle.thread_session.specs.Follows.{Does}
-use Rattle.thread_session.specs.SessionView.{SessionView}
 use Rattle.thread_session.proofs.Calling.{call_does}
 use Rattle.thread_session.proofs.session.Session.raw.Goals as goal
 

@@ -1,11 +1,6 @@
-use Rattle.std.proofs.Common.{◌≡◌, length, refl, subst}
-use Rattle.std.specs.Prelude.{IfOk, OnOk}
+use Rattle.thread_session.proofs.Words.{◌≡◌, length, refl, subst, IfOk, OnOk, reply_of, AreGiven, values_in, Does, SessionView}
 use Rattle.call_type.specs.declared.call.Call.TheVariants as call
 use Rattle.session_model.specs.declared.reply.Body.TheVariants as body
-use Rattle.thread_core.specs.Following.{reply_of}
-use Rattle.thread_core.specs.Told.{AreGiven, values_in}
-use Rattle.thread_session.specs.Follows.{Does}
-use Rattle.thread_session.specs.SessionView.{SessionView}
 use Rattle.thread_session.proofs.Calling.{call_does}
 use Rattle.thread_session.proofs.session.Session.read_into.Goals as goal
 

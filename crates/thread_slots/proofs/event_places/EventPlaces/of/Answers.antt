@@ -1,6 +1,4 @@
-use Rattle.thread_slots.proofs.Words.{◌+◌, ◌++◌, ap, sym, ◌∙◌, arith, drop}
-use Rattle.std.proofs.Common.{append_assoc}
-use Rattle.thread_slots.specs.EventPlaces.{places_of, places_of_event}
+use Rattle.thread_slots.proofs.Words.{◌+◌, ◌++◌, ap, sym, ◌∙◌, arith, drop, append_assoc, places_of, places_of_event}
 use Rattle.thread_slots.proofs.Lists.{drop_at}
 use Rattle.thread_slots.proofs.event_places.EventPlaces.of.Goals as goal
 

@@ -1,6 +1,4 @@
-use Rattle.thread_slots.proofs.Words.{◌≡◌, ◌≤◌, ◌++◌, length, drop}
-use Rattle.std.proofs.Common.{◌*◌}
-use Rattle.thread_slots.specs.EventPlaces.{places_of}
+use Rattle.thread_slots.proofs.Words.{◌≡◌, ◌≤◌, ◌++◌, length, drop, ◌*◌, places_of}
 use Rattle.thread_slots.proofs.event_places.EventPlaces.of.Given as goal
 
 abbrev pub invariant-loop-i : goal.invariant-loop-i

@@ -1,5 +1,4 @@
-use Rattle.thread_slots.proofs.Words.{List, sym, subst, All, Native}
-use Rattle.std.proofs.Common.{◌<◌}
+use Rattle.thread_slots.proofs.Words.{List, sym, subst, All, Native, ◌<◌}
 use Rattle.thread_slots.proofs.Beginning.{slice_some}
 use Rattle.thread_slots.proofs.slot.Slot.begin_in_turns.Goals as goal
 

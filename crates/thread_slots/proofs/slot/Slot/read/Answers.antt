@@ -1,7 +1,5 @@
-use Rattle.thread_slots.proofs.Words.{◌≡◌, List, ℕ, Some, All, ap, arith, map, refl, slice_get, slice_get_read, subst, sym, ◌∙◌, event_value, number_in, pin_numbers}
-use Rattle.std.proofs.Common.{◌<◌, ◌^◌}
-use Rattle.thread_slots.specs.Shown.{numbers_shown}
-use Rattle.thread_slots.specs.declared.values.TheConstants.{NUMBER_BITS}
+use Rattle.thread_slots.proofs.Words.{◌≡◌, List, ℕ, Some, All, ap, arith, map, refl, slice_get, slice_get_read, subst, sym, ◌∙◌, event_value}
+use Rattle.thread_slots.proofs.Words.{number_in, pin_numbers, ◌<◌, ◌^◌, numbers_shown, NUMBER_BITS}
 use Rattle.thread_slots.proofs.Telling.{shown_on}
 use Rattle.thread_slots.proofs.slot.Slot.read.Goals as goal
 use Rattle.thread_slots.proofs.slot.Slot.read.Goals.{After-index-units-comp}

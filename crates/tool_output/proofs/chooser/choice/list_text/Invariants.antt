@@ -1,5 +1,4 @@
-use Rattle.std.proofs.Common.{◌≡◌, string_bytes, take}
-use Rattle.tool_output.specs.Choosing.{names_text}
+use Rattle.tool_output.proofs.Words.{◌≡◌, string_bytes, take, names_text}
 use Rattle.tool_output.proofs.chooser.choice.list_text.Given as goal
 
 abbrev pub invariant-loop-event : goal.invariant-loop-event

@@ -1,13 +1,7 @@
-use Rattle.std.proofs.Common.{◌≡◌, ◌∙◌, ◌∷◌, ◌<◌, ◌≤◌, ◌+◌, ℕ, length, List, [], Some, Ok, Err, refl, ap, sym, drop, get_or}
-use Rattle.std.proofs.lemmas.List.{drop_all, drop_more}
-use Rattle.std.proofs.lemmas.Option.{get_or_from_slice_get, slice_get-get_or}
-use Rattle.std.specs.Prelude.{Result}
-use Rattle.component_table.specs.Catalogs.{CatalogView, looked_up}
-use Rattle.event_sets.specs.AtRest.{AtRest}
-use Rattle.papi_base.specs.declared.code.Code.{Code}
-use Rattle.papi_base.specs.declared.native.EventRef.{EventRef}
+use Rattle.tool_output.proofs.Words.{◌≡◌, ◌∙◌, ◌∷◌, ◌<◌, ◌≤◌, ◌+◌, ℕ, length, List, [], Some, Ok, Err, refl, ap, sym, drop, get_or, drop_all}
+use Rattle.tool_output.proofs.Words.{drop_more, get_or_from_slice_get, slice_get-get_or, Result, CatalogView, looked_up, AtRest, Code, EventRef}
+use Rattle.tool_output.proofs.Words.{GivenSet, RefusedText, with_named, with_text, with_texts}
 use Rattle.tool_output.specs.Replies.{Text}
-use Rattle.tool_output.specs.Choosing.{GivenSet, RefusedText, with_named, with_text, with_texts}
 use Rattle.tool_output.proofs.chooser.given.given_set.Goals as goal
 
 after_refused : (catalog : CatalogView) (r : RefusedText) (texts : List Text) → with_texts catalog (Err r) texts ≡ Err r

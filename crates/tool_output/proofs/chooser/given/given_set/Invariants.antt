@@ -1,8 +1,5 @@
 -- the texts that are left, with the set so far
-use Rattle.std.proofs.Common.{◌≡◌, drop, Ok}
-use Rattle.event_sets.specs.AtRest.{new_set}
-use Rattle.tool_output.specs.Choosing.{with_texts}
-use Rattle.tool_output.specs.Open.{IsOver}
+use Rattle.tool_output.proofs.Words.{◌≡◌, drop, Ok, new_set, with_texts, IsOver}
 use Rattle.tool_output.proofs.chooser.given.given_set.Given as goal
 
 abbrev pub invariant-loop-text : goal.invariant-loop-text

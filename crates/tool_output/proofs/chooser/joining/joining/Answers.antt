@@ -1,9 +1,6 @@
 -- a native event that is there does not join
-use Rattle.std.proofs.Common.{◌≡◌, ◌++◌, true, false, ◌∷◌, [], List, ap, arith, sym, ◌∙◌, append_assoc, length-append}
-use Rattle.std.proofs.lemmas.List.{append-nil}
-use Rattle.papi_base.specs.declared.native.Native.{Native}
-use Rattle.postfix_rules.specs.Sameness.{among, joined_by}
-use Rattle.event_sets.proofs.JoinedNatives.{joins_new, joins_old}
+use Rattle.tool_output.proofs.Words.{◌≡◌, ◌++◌, true, false, ◌∷◌, [], List, ap, arith, sym, ◌∙◌, append_assoc, length-append, append-nil, Native}
+use Rattle.tool_output.proofs.Words.{among, joined_by, joins_new, joins_old}
 use Rattle.tool_output.proofs.chooser.joining.joining.Goals as goal
 use Rattle.tool_output.proofs.chooser.joining.joining.Goals.{then-not-has_either, else-not-has_either}
 

@@ -1,6 +1,5 @@
 -- what is left joins those so far as all join the first ones
-use Rattle.std.proofs.Common.{◌≡◌, ◌≤◌, ◌++◌, drop, length}
-use Rattle.postfix_rules.specs.Sameness.{joined_by}
+use Rattle.tool_output.proofs.Words.{◌≡◌, ◌≤◌, ◌++◌, drop, length, joined_by}
 use Rattle.tool_output.proofs.chooser.joining.joining.Given as goal
 
 abbrev pub invariant-loop-i : goal.invariant-loop-i

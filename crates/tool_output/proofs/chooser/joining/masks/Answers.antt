@@ -1,6 +1,4 @@
-use Rattle.std.proofs.Common.{◌∙◌, ◌++◌, ◌∷◌, [], List, ℕ, ap, sym, arith, length-set}
-use Rattle.std.proofs.lemmas.List.{take_more_set}
-use Rattle.event_sets.proofs.Clashing.{masks_at}
+use Rattle.tool_output.proofs.Words.{◌∙◌, ◌++◌, ◌∷◌, [], List, ℕ, ap, sym, arith, length-set, take_more_set, masks_at}
 use Rattle.tool_output.proofs.chooser.joining.masks.Goals as goal
 
 pub loop-i-preserved : goal.loop-i-preserved

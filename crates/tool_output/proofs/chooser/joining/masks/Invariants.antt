@@ -1,5 +1,4 @@
-use Rattle.std.proofs.Common.{◌≡◌, length, take}
-use Rattle.counter_alloc.specs.Masks.{masks_of}
+use Rattle.tool_output.proofs.Words.{◌≡◌, length, take, masks_of}
 use Rattle.tool_output.proofs.chooser.joining.masks.Given as goal
 
 abbrev pub invariant-loop-i : goal.invariant-loop-i

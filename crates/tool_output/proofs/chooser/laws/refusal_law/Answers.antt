@@ -1,16 +1,6 @@
-use Rattle.std.proofs.Common.{◌≡◌, ◌∙◌, ℕ, Bool, false, List, Ok, Option, Some, None, ap, refl}
-use Rattle.std.specs.Prelude.{if◌then◌else◌, is_none, is_some}
-use Rattle.std.specs.Option.{option_and_then, option_map, option_map_or}
-use Rattle.event_sets.specs.Adding.{add_refusal}
-use Rattle.event_sets.specs.AtRest.{Widths, cannot_take, clash_with, is_full}
-use Rattle.event_sets.specs.declared.refusal.Clash.{Clash}
-use Rattle.event_sets.specs.declared.refusal.Refusal.{Refusal}
-use Rattle.event_sets.specs.declared.refusal.Refusal.TheVariants.{Conflict, Plain}
-use Rattle.papi_base.specs.declared.code.Code.TheVariants.{Ecount, Einval, Eisrun, Enoevst}
-use Rattle.papi_base.specs.declared.native.EventRef.{EventRef}
-use Rattle.postfix_rules.specs.Presets.{Book}
-use Rattle.session_model.specs.Faces.{Face, at}
-use Rattle.session_model.specs.Refusals.{conflict_of, refusal_of}
+use Rattle.tool_output.proofs.Words.{◌≡◌, ◌∙◌, ℕ, Bool, false, List, Ok, Option, Some, None, ap, refl, if◌then◌else◌, is_none, is_some}
+use Rattle.tool_output.proofs.Words.{option_and_then, option_map, option_map_or, add_refusal, Widths, cannot_take, clash_with, is_full, Clash}
+use Rattle.tool_output.proofs.Words.{Refusal, Conflict, Plain, Ecount, Einval, Eisrun, Enoevst, EventRef, Book, Face, at, conflict_of, refusal_of}
 use Rattle.call_type.specs.declared.call.Call.TheVariants as call
 use Rattle.tool_output.proofs.chooser.laws.refusal_law.Goals as goal
 

@@ -1,15 +1,8 @@
-use Rattle.std.proofs.Common.{◌≡◌, ◌∙◌, ◌<◌, ◌++◌, [], ℕ, List, Some, Option, filter, get_or, length, map, slice_get, sym, ap, arith}
+use Rattle.tool_output.proofs.Words.{◌≡◌, ◌∙◌, ◌<◌, ◌++◌, [], ℕ, List, Some, Option, filter, get_or, length, map, slice_get, sym, ap, arith, flat_map}
+use Rattle.tool_output.proofs.Words.{range_with_len, option_and_then, option_map_or, append-nil, length-map, slice_get-get_or, slice_get-map}
+use Rattle.tool_output.proofs.Words.{ComponentText, EventText, component_text, event_text, EventRow, EventRef, takes}
 use Rattle.std.specs.Prelude.{option_map}
-use Rattle.std.specs.List.{flat_map, range_with_len}
-use Rattle.std.specs.Option.{option_and_then, option_map_or}
-use Rattle.std.proofs.lemmas.List.{append-nil, length-map}
-use Rattle.std.proofs.lemmas.Option.{slice_get-get_or, slice_get-map}
-use Rattle.event_tables.specs.Tables.{ComponentText, EventText}
-use Rattle.event_tables.specs.Views.{component_text, event_text}
-use Rattle.event_tables.specs.declared.component.EventRow.{EventRow}
-use Rattle.papi_base.specs.declared.native.EventRef.{EventRef}
 use Rattle.tool_output.specs.Candidates.{found, natives_in_row, natives_of_component, natives_of_event}
-use Rattle.tool_output.specs.Choosing.{takes}
 use Rattle.tool_output.proofs.Natives.{component_events, component_not_taken}
 use Rattle.tool_output.proofs.Rows.{kept_more}
 use Rattle.tool_output.proofs.chooser.listing.keep_component.Goals as goal

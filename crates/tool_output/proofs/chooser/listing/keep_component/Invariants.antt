@@ -1,9 +1,5 @@
 -- those of the rows so far
-use Rattle.std.proofs.Common.{◌≡◌, ◌++◌, filter}
-use Rattle.std.specs.List.{flat_map, range_with_len}
-use Rattle.event_tables.specs.Views.{component_text}
-use Rattle.tool_output.specs.Candidates.{natives_in_row}
-use Rattle.tool_output.specs.Choosing.{takes}
+use Rattle.tool_output.proofs.Words.{◌≡◌, ◌++◌, filter, flat_map, range_with_len, component_text, natives_in_row, takes}
 use Rattle.tool_output.proofs.chooser.listing.keep_component.Given as goal
 
 abbrev pub invariant-loop-row : goal.invariant-loop-row

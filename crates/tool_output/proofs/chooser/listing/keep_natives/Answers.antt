@@ -1,17 +1,8 @@
-use Rattle.std.proofs.Common.{◌≡◌, ◌∙◌, ◌<◌, ◌++◌, ◌∷◌, [], ℕ, Bool, List, Some, filter, length, sym, ap, subst, arith}
-use Rattle.std.specs.Prelude.{OnOk, Result}
-use Rattle.std.proofs.lemmas.Bool.Decides.{nat_tests}
-use Rattle.std.proofs.lemmas.List.{length-map}
-use Rattle.event_tables.specs.Kept.{IsComponent}
+use Rattle.tool_output.proofs.Words.{◌≡◌, ◌∙◌, ◌<◌, ◌++◌, ◌∷◌, [], ℕ, Bool, List, Some, filter, length, sym, ap, subst, arith, OnOk, Result}
+use Rattle.tool_output.proofs.Words.{nat_tests, length-map, IsComponent, native-allowed, all_at, EventRef, Native, alone, found, no_modifiers}
+use Rattle.tool_output.proofs.Words.{with_umask, takes, IsOpen}
 use Rattle.event_tables.specs.Views.{component_text, counter_text, event_text, mask_text}
-use Rattle.name_encoder.proofs.Encoded.{native-allowed}
-use Rattle.papi_base.proofs.Steps.{all_at}
-use Rattle.papi_base.specs.declared.native.EventRef.{EventRef}
 use Rattle.papi_base.specs.declared.native.EventRef.TheVariants as event
-use Rattle.papi_base.specs.declared.native.Native.{Native}
-use Rattle.tool_output.specs.Candidates.{alone, found, no_modifiers, with_umask}
-use Rattle.tool_output.specs.Choosing.{takes}
-use Rattle.tool_output.specs.Open.{IsOpen}
 use Rattle.tool_output.proofs.Natives.{event_kept, native_fits, with_masks, without_masks}
 use Rattle.tool_output.proofs.Rows.{kept_one}
 use Rattle.tool_output.proofs.chooser.listing.keep_natives.Goals as goal

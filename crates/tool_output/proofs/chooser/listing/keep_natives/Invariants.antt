@@ -1,9 +1,5 @@
 -- those of the umasks so far
-use Rattle.std.proofs.Common.{◌≡◌, ◌++◌, filter, map}
-use Rattle.std.specs.List.{range_with_len}
-use Rattle.event_tables.specs.Views.{component_text, event_text}
-use Rattle.tool_output.specs.Candidates.{found, with_umask}
-use Rattle.tool_output.specs.Choosing.{takes}
+use Rattle.tool_output.proofs.Words.{◌≡◌, ◌++◌, filter, map, range_with_len, component_text, event_text, found, with_umask, takes}
 use Rattle.tool_output.proofs.chooser.listing.keep_natives.Given as goal
 
 abbrev pub invariant-loop-umask : goal.invariant-loop-umask

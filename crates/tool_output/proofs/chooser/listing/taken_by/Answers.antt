@@ -1,8 +1,5 @@
-use Rattle.std.proofs.Common.{◌≡◌, ◌∙◌, [], ℕ, filter, length, ap, arith}
-use Rattle.std.specs.List.{flat_map, range_with_len}
-use Rattle.component_table.specs.Catalogs.{CatalogView, row_count}
-use Rattle.tool_output.specs.Candidates.{candidates, natives_at, preset_in}
-use Rattle.tool_output.specs.Choosing.{takes}
+use Rattle.tool_output.proofs.Words.{◌≡◌, ◌∙◌, [], ℕ, filter, length, ap, arith, flat_map, range_with_len, CatalogView, row_count, candidates}
+use Rattle.tool_output.proofs.Words.{natives_at, preset_in, takes}
 use Rattle.tool_output.specs.declared.chooser.candidates.Candidates.TheVariants as which
 use Rattle.tool_output.proofs.Rows.{kept_more}
 use Rattle.tool_output.proofs.chooser.listing.taken_by.Goals as goal

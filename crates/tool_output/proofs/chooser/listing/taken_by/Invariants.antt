@@ -1,8 +1,5 @@
 -- those of the components, or of the rows, so far
-use Rattle.std.proofs.Common.{◌≡◌, filter}
-use Rattle.std.specs.List.{flat_map, range_with_len}
-use Rattle.tool_output.specs.Candidates.{natives_at, preset_in}
-use Rattle.tool_output.specs.Choosing.{takes}
+use Rattle.tool_output.proofs.Words.{◌≡◌, filter, flat_map, range_with_len, natives_at, preset_in, takes}
 use Rattle.tool_output.proofs.chooser.listing.taken_by.Given as goal
 
 abbrev pub invariant-loop-comp : goal.invariant-loop-comp

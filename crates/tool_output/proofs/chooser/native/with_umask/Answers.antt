@@ -1,12 +1,5 @@
-use Rattle.std.proofs.Common.{◌≡◌, ◌∙◌, ◌<◌, ◌≤◌, ℕ, true, false, Bool, List, length, map, take, refl, ap, arith}
-use Rattle.std.proofs.Math.ListN.{set}
-use Rattle.std.proofs.lemmas.List.{length-map}
-use Rattle.std.specs.List.{AllByRecursion}
-use Rattle.event_tables.specs.Tables.{MaskText}
-use Rattle.event_tables.specs.Views.{component_text, event_text, mask_text}
-use Rattle.name_encoder.specs.Judged.{nothing}
-use Rattle.name_encoder.specs.Names.{Found, native_of}
-use Rattle.tool_output.specs.Candidates.{found, no_modifiers}
+use Rattle.tool_output.proofs.Words.{◌≡◌, ◌∙◌, ◌<◌, ◌≤◌, ℕ, true, false, Bool, List, length, map, take, refl, ap, arith, set, length-map}
+use Rattle.tool_output.proofs.Words.{AllByRecursion, MaskText, component_text, event_text, mask_text, nothing, Found, native_of, found, no_modifiers}
 use Rattle.tool_output.proofs.Umasks.{flag-alone}
 use Rattle.tool_output.proofs.chooser.native.with_umask.Goals as goal
 

@@ -1,12 +1,5 @@
-use Rattle.std.proofs.Common.{◌≡◌, ◌∙◌, ◌<◌, ◌^◌, ◌++◌, ◌&&◌, true, List, ℕ, ap, ap₂, length, sym, take, subst, arith, length-append}
-use Rattle.std.specs.Prelude.{◌↔◌, IsTrue, nat_le, slice_index}
-use Rattle.std.proofs.lemmas.Bool.Decides.{nat_tests}
-use Rattle.std.proofs.lemmas.List.{map-append}
-use Rattle.counter_alloc.specs.Assignments.{Assignable}
-use Rattle.counter_alloc.specs.Listing.{is_assignable}
-use Rattle.counter_alloc.specs.Masks.{masks_of}
-use Rattle.event_sets.proofs.Clashing.{are_masks}
-use Rattle.papi_base.specs.declared.native.Native.{Native}
+use Rattle.tool_output.proofs.Words.{◌≡◌, ◌∙◌, ◌<◌, ◌^◌, ◌++◌, ◌&&◌, true, List, ℕ, ap, ap₂, length, sym, take, subst, arith, length-append, ◌↔◌}
+use Rattle.tool_output.proofs.Words.{IsTrue, nat_le, slice_index, nat_tests, map-append, Assignable, is_assignable, masks_of, are_masks, Native}
 use Rattle.tool_output.proofs.Openings.{all_right, fits_is, masks_below}
 use Rattle.tool_output.proofs.chooser.opening.fits.Goals as goal
 

@@ -1,14 +1,5 @@
-use Rattle.std.proofs.Common.{◌≡◌, ◌∙◌, ◌++◌, ◌∷◌, [], List, Option, Some, ℕ, ap, length, slice_get, sym, subst}
-use Rattle.std.specs.Prelude.{unwrap_or}
-use Rattle.component_table.specs.Catalogs.{shape_of}
-use Rattle.counter_alloc.specs.Assignments.{Assignable}
-use Rattle.counter_alloc.specs.Masks.{masks_of}
-use Rattle.counter_alloc.specs.Matchings.{MatchingView}
-use Rattle.counter_alloc.proofs.Results.{ok_of}
-use Rattle.event_sets.proofs.Clashing.{masks_at, refused_whole}
-use Rattle.event_sets.specs.AtRest.{Widths, widths_at}
-use Rattle.event_sets.specs.Sets.{SetView}
-use Rattle.papi_base.specs.declared.native.Native.{Native}
+use Rattle.tool_output.proofs.Words.{◌≡◌, ◌∙◌, ◌++◌, ◌∷◌, [], List, Option, Some, ℕ, ap, length, slice_get, sym, subst, unwrap_or, shape_of}
+use Rattle.tool_output.proofs.Words.{Assignable, masks_of, MatchingView, ok_of, masks_at, refused_whole, Widths, widths_at, SetView, Native}
 use Rattle.tool_output.proofs.Openings.{err_of, in_range_of}
 use Rattle.tool_output.proofs.chooser.opening.opened.Goals as goal
 

@@ -1,6 +1,5 @@
 -- the native events so far have counters of their own
-use Rattle.std.proofs.Common.{◌≡◌, take}
-use Rattle.counter_alloc.specs.Masks.{masks_of}
+use Rattle.tool_output.proofs.Words.{◌≡◌, take, masks_of}
 use Rattle.tool_output.proofs.chooser.opening.opened.Given as goal
 
 abbrev pub invariant-loop-i : goal.invariant-loop-i

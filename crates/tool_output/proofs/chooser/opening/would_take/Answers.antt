@@ -1,16 +1,7 @@
 -- what is found is what the definition of the refusals says
-use Rattle.std.proofs.Common.{◌≡◌, ◌∙◌, ◌<◌, ◌++◌, Some, slice_get, ap, ap₂, length, sym, arith}
-use Rattle.std.specs.List.{list_any}
-use Rattle.std.specs.Option.{option_map}
-use Rattle.component_table.specs.Catalogs.{shape_of}
-use Rattle.event_sets.specs.AtRest.{is_other, widths_at}
-use Rattle.event_sets.specs.Sets.{SetView}
-use Rattle.event_sets.proofs.Adding.{Ready, all_in_range}
-use Rattle.event_sets.proofs.Agreeing.{held_have_natives}
-use Rattle.event_sets.proofs.Sound.{held_fit}
-use Rattle.papi_base.specs.declared.native.Native.{Native}
-use Rattle.postfix_rules.specs.Presets.{Book, component_of_event, natives_of_event}
-use Rattle.postfix_rules.specs.Sameness.{joined_by, same_event}
+use Rattle.tool_output.proofs.Words.{◌≡◌, ◌∙◌, ◌<◌, ◌++◌, Some, slice_get, ap, ap₂, length, sym, arith, list_any, option_map, shape_of, is_other}
+use Rattle.tool_output.proofs.Words.{widths_at, SetView, Ready, all_in_range, held_have_natives, held_fit, Native, Book, component_of_event}
+use Rattle.tool_output.proofs.Words.{natives_of_event, joined_by, same_event}
 use Rattle.tool_output.proofs.Openings.{takes_is}
 use Rattle.tool_output.proofs.chooser.opening.would_take.Goals as goal
 use Rattle.tool_output.proofs.chooser.opening.would_take.Goals.{After-joining-further}

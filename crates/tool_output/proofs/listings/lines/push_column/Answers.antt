@@ -1,5 +1,4 @@
-use Rattle.std.proofs.Common.{◌∙◌, ◌++◌, ap, arith, string_bytes}
-use Rattle.tool_output.specs.Lines.{spaces}
+use Rattle.tool_output.proofs.Words.{◌∙◌, ◌++◌, ap, arith, string_bytes, spaces}
 use Rattle.tool_output.proofs.Listed.{space_pushed}
 use Rattle.tool_output.proofs.listings.lines.push_column.Goals as goal
 

@@ -1,9 +1,5 @@
-use Rattle.std.proofs.Common.{ℕ, Bool, ◌∙◌, ◌==◌, ◌+◌, ◌∷◌, ◌++◌, ap, map, string_bytes, sym}
-use Rattle.std.specs.Int.{bit_at}
-use Rattle.std.specs.List.{range_with_len}
-use Rattle.papi_base.proofs.Growing.{range_more}
+use Rattle.tool_output.proofs.Words.{ℕ, Bool, ◌∙◌, ◌==◌, ◌+◌, ◌∷◌, ◌++◌, ap, map, string_bytes, sym, bit_at, range_with_len, range_more, Text}
 use Rattle.event_tables.specs.Views as Views
-use Rattle.tool_output.specs.Lines.{Text}
 use Rattle.tool_output.specs.NativeEvents.{counter_text}
 use Rattle.tool_output.proofs.Listed.{kept, passed, pushed, unmoved}
 use Rattle.tool_output.proofs.Tables.{counter_named}

@@ -1,6 +1,4 @@
-use Rattle.std.proofs.Common.{◌≡◌, ◌==◌, ◌++◌, filter, map, string_bytes}
-use Rattle.std.specs.Int.{bit_at}
-use Rattle.std.specs.List.{flat_map, range_with_len}
+use Rattle.tool_output.proofs.Words.{◌≡◌, ◌==◌, ◌++◌, filter, map, string_bytes, bit_at, flat_map, range_with_len}
 use Rattle.event_tables.specs.Views as Views
 use Rattle.tool_output.specs.NativeEvents.{counter_text}
 use Rattle.tool_output.proofs.listings.native_events.push_counters.Given as goal

@@ -1,6 +1,4 @@
-use Rattle.std.proofs.lemmas.Bool.Decides.{same_from_decides}
-use Rattle.std.proofs.lemmas.Str.Pattern.{contains_text}
-use Rattle.tool_output.specs.NativeLists.{stands_in}
+use Rattle.tool_output.proofs.Words.{same_from_decides, contains_text, stands_in}
 use Rattle.tool_output.proofs.Containing.{decides}
 use Rattle.tool_output.proofs.listings.native_lists.contains.Goals as goal
 

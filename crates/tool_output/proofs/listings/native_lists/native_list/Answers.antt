@@ -1,6 +1,4 @@
-use Rattle.std.proofs.Common.{arith}
-use Rattle.std.specs.Option.{option_copied}
-use Rattle.event_tables.specs.Views.{component_text}
+use Rattle.tool_output.proofs.Words.{arith, option_copied, component_text}
 use Rattle.tool_output.proofs.ListedEvents.{few_listed, one_component}
 use Rattle.tool_output.proofs.Tables.{is_there}
 use Rattle.tool_output.proofs.listings.native_lists.native_list.Goals as goal

@@ -1,5 +1,4 @@
-use Rattle.std.proofs.Common.{[], string_bytes}
-use Rattle.std.specs.Option.{option_copied}
+use Rattle.tool_output.proofs.Words.{[], string_bytes, option_copied}
 use Rattle.tool_output.proofs.ListedEvents.{AreAllListed}
 use Rattle.tool_output.proofs.listings.native_lists.native_list.Given as goal
 

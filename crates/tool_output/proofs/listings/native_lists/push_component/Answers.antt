@@ -1,9 +1,5 @@
-use Rattle.std.proofs.Common.{◌≡◌, ◌∙◌, ◌<◌, ◌++◌, List, ap, get_or, length, string_bytes, subst, sym}
-use Rattle.std.specs.Option.{option_copied}
-use Rattle.event_tables.specs.Views.{event_text}
-use Rattle.event_tables.specs.declared.component.EventRow.{EventRow}
-use Rattle.tool_output.specs.Lines.{Text}
-use Rattle.tool_output.specs.NativeLists.{full_name, is_chosen, named_lines}
+use Rattle.tool_output.proofs.Words.{◌≡◌, ◌∙◌, ◌<◌, ◌++◌, List, ap, get_or, length, string_bytes, subst, sym, option_copied, event_text, EventRow}
+use Rattle.tool_output.proofs.Words.{Text, full_name, is_chosen, named_lines}
 use Rattle.tool_output.proofs.ListedEvents.{none_listed, one_listed}
 use Rattle.tool_output.proofs.listings.native_lists.push_component.Goals as goal
 use Rattle.tool_output.proofs.listings.native_lists.push_component.Goals.{then-is_chosen+in_ok-push_event, else-is_chosen}

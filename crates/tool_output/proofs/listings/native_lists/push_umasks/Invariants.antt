@@ -1,7 +1,4 @@
-use Rattle.std.proofs.Common.{◌≡◌, ◌++◌, map, string_bytes, take}
-use Rattle.std.specs.List.{flat_map}
-use Rattle.event_tables.specs.Views.{mask_text}
-use Rattle.tool_output.specs.NativeLists.{umask_line}
+use Rattle.tool_output.proofs.Words.{◌≡◌, ◌++◌, map, string_bytes, take, flat_map, mask_text, umask_line}
 use Rattle.tool_output.proofs.listings.native_lists.push_umasks.Given as goal
 
 abbrev pub invariant-loop-umask : goal.invariant-loop-umask

@@ -1,9 +1,5 @@
-use Rattle.std.proofs.Common.{◌∙◌, ◌∷◌, ◌++◌, [], ap, codes, string_bytes}
-use Rattle.component_table.specs.Books.{kind_of}
-use Rattle.papi_base.proofs.Growing.{both}
-use Rattle.preset_csv.specs.Kinds.{kind_text}
-use Rattle.tool_output.specs.Lines.{Text}
-use Rattle.tool_output.specs.PresetEvents.{formula_line, native_lines, type_line}
+use Rattle.tool_output.proofs.Words.{◌∙◌, ◌∷◌, ◌++◌, [], ap, codes, string_bytes, kind_of, both, kind_text, Text, formula_line, native_lines}
+use Rattle.tool_output.proofs.Words.{type_line}
 use Rattle.tool_output.proofs.listings.preset_events.push_derived.Goals as goal
 
 pub returns : goal.returns

@@ -1,12 +1,6 @@
 use Rattle.std.proofs.Common.{◌≡◌, ◌∙◌, Option, [], ◌+◌, ◌∷◌, ◌++◌, ap, codes, decimal, string_bytes, sym}
-use Rattle.std.specs.List.{range_with_len}
-use Rattle.std.specs.Option.{option_map_or}
+use Rattle.tool_output.proofs.Words.{range_with_len, option_map_or, canonical, Native, range_more, Text, native_line}
 use Rattle.std.specs.Prelude.{slice_get}
-use Rattle.name_encoder.specs.Canonical.{canonical}
-use Rattle.papi_base.specs.declared.native.Native.{Native}
-use Rattle.papi_base.proofs.Growing.{range_more}
-use Rattle.tool_output.specs.Lines.{Text}
-use Rattle.tool_output.specs.PresetEvents.{native_line}
 use Rattle.tool_output.proofs.Listed.{pushed}
 use Rattle.tool_output.proofs.listings.preset_events.push_natives.Goals as goal
 

@@ -1,6 +1,4 @@
-use Rattle.std.proofs.Common.{◌≡◌, ◌++◌, string_bytes}
-use Rattle.std.specs.List.{flat_map, range_with_len}
-use Rattle.tool_output.specs.PresetEvents.{native_line}
+use Rattle.tool_output.proofs.Words.{◌≡◌, ◌++◌, string_bytes, flat_map, range_with_len, native_line}
 use Rattle.tool_output.proofs.listings.preset_events.push_natives.Given as goal
 
 abbrev pub invariant-loop-place : goal.invariant-loop-place

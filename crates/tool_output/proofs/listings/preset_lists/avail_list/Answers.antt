@@ -1,8 +1,5 @@
-use Rattle.std.proofs.Common.{◌≡◌, ◌∙◌, ◌+◌, ◌++◌, ap, arith, filter, string_bytes, sym}
-use Rattle.std.specs.List.{flat_map, range_with_len}
-use Rattle.papi_base.proofs.Growing.{range_more, both}
-use Rattle.component_table.specs.Catalogs.{row_count}
-use Rattle.tool_output.specs.PresetLists.{counts_line, heading, is_listed, preset_list, row_line, rows}
+use Rattle.tool_output.proofs.Words.{◌≡◌, ◌∙◌, ◌+◌, ◌++◌, ap, arith, filter, string_bytes, sym, flat_map, range_with_len, range_more, both, row_count}
+use Rattle.tool_output.proofs.Words.{counts_line, heading, is_listed, preset_list, row_line, rows}
 use Rattle.tool_output.proofs.Listed.{kept, passed, pushed, unmoved}
 use Rattle.tool_output.proofs.listings.preset_lists.avail_list.Goals as goal
 use Rattle.tool_output.proofs.listings.preset_lists.avail_list.Goals.{then-is_listed+in_ok-push_row, else-is_listed}

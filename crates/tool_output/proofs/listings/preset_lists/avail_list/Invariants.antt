@@ -1,6 +1,4 @@
-use Rattle.std.proofs.Common.{◌≡◌, ◌++◌, filter, string_bytes}
-use Rattle.std.specs.List.{flat_map, range_with_len}
-use Rattle.tool_output.specs.PresetLists.{heading, is_listed, row_line}
+use Rattle.tool_output.proofs.Words.{◌≡◌, ◌++◌, filter, string_bytes, flat_map, range_with_len, heading, is_listed, row_line}
 use Rattle.tool_output.proofs.listings.preset_lists.avail_list.Given as goal
 
 abbrev pub invariant-loop-row : goal.invariant-loop-row

@@ -1,6 +1,4 @@
-use Rattle.std.proofs.Common.{◌∙◌, ◌+◌, ap, arith}
-use Rattle.std.specs.Int.{from_bool}
-use Rattle.component_table.specs.Books.{is_available, is_derived}
+use Rattle.tool_output.proofs.Words.{◌∙◌, ◌+◌, ap, arith, from_bool, is_available, is_derived}
 use Rattle.tool_output.proofs.Listed.{count_within, counted_row}
 use Rattle.tool_output.proofs.listings.preset_lists.push_counts.Goals as goal
 

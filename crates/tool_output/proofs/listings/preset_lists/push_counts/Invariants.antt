@@ -1,6 +1,4 @@
-use Rattle.std.proofs.Common.{◌≡◌}
-use Rattle.std.specs.List.{count_by, range_with_len}
-use Rattle.component_table.specs.Books.{is_available, is_derived}
+use Rattle.tool_output.proofs.Words.{◌≡◌, count_by, range_with_len, is_available, is_derived}
 use Rattle.tool_output.proofs.listings.preset_lists.push_counts.Given as goal
 
 abbrev pub invariant-loop-row : goal.invariant-loop-row

@@ -1,6 +1,4 @@
-use Rattle.std.specs.Prelude.{decimal}
-use Rattle.call_type.specs.CallNames.{word_of}
-use Rattle.tool_output.specs.Replies.{line_text, reply_text}
+use Rattle.tool_output.proofs.Words.{decimal, word_of, line_text, reply_text}
 use Rattle.tool_output.proofs.Texts.{line_joined}
 use Rattle.tool_output.proofs.replies.line.push_reply_line.Goals as goal
 

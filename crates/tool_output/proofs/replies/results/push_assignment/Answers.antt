@@ -1,6 +1,5 @@
-use Rattle.std.proofs.Common.{◌∙◌, ◌++◌, ◌∷◌, ap, arith}
+use Rattle.tool_output.proofs.Words.{◌∙◌, ◌++◌, ◌∷◌, ap, arith, assigned_text}
 use Rattle.std.specs.Prelude.{string_bytes, zip}
-use Rattle.tool_output.specs.Replies.{assigned_text}
 use Rattle.tool_output.proofs.Texts.{get-zip, item_pushed, items_pushed, pushed_none, zip_within}
 use Rattle.tool_output.proofs.replies.results.push_assignment.Goals as goal
 

@@ -1,6 +1,5 @@
-use Rattle.std.proofs.Common.{◌≡◌, ◌++◌, map, take}
+use Rattle.tool_output.proofs.Words.{◌≡◌, ◌++◌, map, take, assigned_text, spaced}
 use Rattle.std.specs.Prelude.{string_bytes, zip}
-use Rattle.tool_output.specs.Replies.{assigned_text, spaced}
 use Rattle.tool_output.proofs.replies.results.push_assignment.Given as goal
 
 abbrev pub invariant-loop-i : goal.invariant-loop-i

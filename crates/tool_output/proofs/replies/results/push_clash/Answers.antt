@@ -1,7 +1,5 @@
-use Rattle.std.proofs.Common.{◌∙◌, ◌++◌, ap, map, codes}
+use Rattle.tool_output.proofs.Words.{◌∙◌, ◌++◌, ap, map, codes, canonical, clash_texts, counter_text, members_below, spaced}
 use Rattle.std.specs.Prelude.{string_bytes}
-use Rattle.name_encoder.specs.Canonical.{canonical}
-use Rattle.tool_output.specs.Replies.{clash_texts, counter_text, members_below, spaced}
 use Rattle.tool_output.proofs.Texts.{parts_pushed}
 use Rattle.tool_output.proofs.replies.results.push_clash.Goals as goal
 

@@ -1,6 +1,5 @@
-use Rattle.std.proofs.Common.{◌∙◌, ◌++◌, ◌∷◌, ℕ, ap, sym}
+use Rattle.tool_output.proofs.Words.{◌∙◌, ◌++◌, ◌∷◌, ℕ, ap, sym, bit_at}
 use Rattle.std.specs.Prelude.{◌==◌, string_bytes}
-use Rattle.std.specs.Int.{bit_at}
 use Rattle.tool_output.specs.Replies.{Text, counter_text}
 use Rattle.tool_output.proofs.Texts.{member_passed, member_pushed}
 use Rattle.tool_output.proofs.replies.results.push_counters.Goals as goal

@@ -1,6 +1,5 @@
-use Rattle.std.proofs.Common.{◌≡◌, ◌++◌, map}
+use Rattle.tool_output.proofs.Words.{◌≡◌, ◌++◌, map, counter_text, members_below, spaced}
 use Rattle.std.specs.Prelude.{string_bytes}
-use Rattle.tool_output.specs.Replies.{counter_text, members_below, spaced}
 use Rattle.tool_output.proofs.replies.results.push_counters.Given as goal
 
 abbrev pub invariant-loop-counter : goal.invariant-loop-counter

@@ -1,7 +1,5 @@
-use Rattle.std.proofs.Common.{◌≡◌, ◌++◌, map, take}
+use Rattle.tool_output.proofs.Words.{◌≡◌, ◌++◌, map, take, event_name, spaced}
 use Rattle.std.specs.Prelude.{string_bytes}
-use Rattle.component_table.specs.EventNames.{event_name}
-use Rattle.tool_output.specs.Replies.{spaced}
 use Rattle.tool_output.proofs.replies.results.push_events.Given as goal
 
 abbrev pub invariant-loop-i : goal.invariant-loop-i

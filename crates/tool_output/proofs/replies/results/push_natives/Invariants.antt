@@ -1,7 +1,5 @@
-use Rattle.std.proofs.Common.{◌≡◌, ◌++◌, map, take}
+use Rattle.tool_output.proofs.Words.{◌≡◌, ◌++◌, map, take, canonical, spaced}
 use Rattle.std.specs.Prelude.{string_bytes}
-use Rattle.name_encoder.specs.Canonical.{canonical}
-use Rattle.tool_output.specs.Replies.{spaced}
 use Rattle.tool_output.proofs.replies.results.push_natives.Given as goal
 
 abbrev pub invariant-loop-i : goal.invariant-loop-i

@@ -1,6 +1,5 @@
-use Rattle.std.proofs.Common.{◌≡◌, ◌++◌, map}
+use Rattle.tool_output.proofs.Words.{◌≡◌, ◌++◌, map, members_below, spaced}
 use Rattle.std.specs.Prelude.{decimal, string_bytes}
-use Rattle.tool_output.specs.Replies.{members_below, spaced}
 use Rattle.tool_output.proofs.replies.results.push_threads.Given as goal
 
 abbrev pub invariant-loop-thread : goal.invariant-loop-thread

@@ -1,10 +1,6 @@
-use Rattle.std.proofs.Common.{◌≡◌, ◌-◌, ◌++◌, ◌∷◌, ◌∙◌, w64, arith, refl, ap, sym, drop, take, map, rules}
+use Rattle.tool_output.proofs.Words.{◌≡◌, ◌-◌, ◌++◌, ◌∷◌, ◌∙◌, w64, arith, refl, ap, sym, drop, take, map, rules, length-drop, take_all}
+use Rattle.tool_output.proofs.Words.{IsUtf8-from_ascii, signed_decimal, spaced, LONGEST_LIST, LONGEST_VALUE}
 use Rattle.std.proofs.lemmas.Int.{to_z-of_z}
-use Rattle.std.proofs.lemmas.List.{length-drop, take_all}
-use Rattle.std.proofs.lemmas.Str.{IsUtf8-from_ascii}
-use Rattle.std.specs.Fmt.{signed_decimal}
-use Rattle.tool_output.specs.Replies.{spaced}
-use Rattle.tool_output.specs.declared.replies.values.TheConstants.{LONGEST_LIST, LONGEST_VALUE}
 use Rattle.tool_output.proofs.Texts.{all_before, none_before, one_before}
 use Rattle.tool_output.proofs.replies.values.push_values.Goals as goal
 

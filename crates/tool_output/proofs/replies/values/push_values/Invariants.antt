@@ -1,8 +1,4 @@
-use Rattle.std.proofs.Common.{◌≡◌, ◌+◌, ◌-◌, ◌*◌, ◌≤◌, length, map, drop}
-use Rattle.std.specs.Fmt.{signed_decimal}
-use Rattle.std.specs.Str.{IsAscii}
-use Rattle.tool_output.specs.Replies.{spaced}
-use Rattle.tool_output.specs.declared.replies.values.TheConstants.{LONGEST_LIST, LONGEST_VALUE}
+use Rattle.tool_output.proofs.Words.{◌≡◌, ◌+◌, ◌-◌, ◌*◌, ◌≤◌, length, map, drop, signed_decimal, IsAscii, spaced, LONGEST_LIST, LONGEST_VALUE}
 use Rattle.tool_output.proofs.replies.values.push_values.Given as goal
 
 abbrev pub invariant-loop-written : goal.invariant-loop-written

@@ -1,8 +1,5 @@
-use Rattle.std.proofs.Common.{◌≡◌, ◌+◌, ◌-◌, ◌++◌, arith, refl, ap, drop, to_z-of_z, List, ℕ}
-use Rattle.std.proofs.lemmas.Fmt.{length-decimal-le}
-use Rattle.std.proofs.lemmas.List.{drop-set}
-use Rattle.itoa.proofs.Decimal.{minus_first}
-use Rattle.tool_output.specs.declared.replies.values.TheConstants.{LONGEST_VALUE}
+use Rattle.tool_output.proofs.Words.{◌≡◌, ◌+◌, ◌-◌, ◌++◌, arith, refl, ap, drop, to_z-of_z, List, ℕ, length-decimal-le, drop-set, minus_first}
+use Rattle.tool_output.proofs.Words.{LONGEST_VALUE}
 use Rattle.tool_output.proofs.replies.values.write_signed.Goals as goal
 
 pub write_digits-start-requires : goal.write_digits-start-requires

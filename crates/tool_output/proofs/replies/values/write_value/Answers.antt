@@ -1,9 +1,4 @@
-use Rattle.std.proofs.Common.{◌≡◌, ◌+◌, ◌-◌, arith, refl, to_z-of_z}
-use Rattle.std.proofs.lemmas.Fmt.{IsAscii-signed}
-use Rattle.std.proofs.lemmas.List.{drop-set}
-use Rattle.std.proofs.lemmas.Str.{IsAscii-append}
-use Rattle.std.proofs.lemmas.Str.Ascii.{IsAscii-cons}
-use Rattle.tool_output.specs.declared.replies.values.TheConstants.{LONGEST_VALUE}
+use Rattle.tool_output.proofs.Words.{◌≡◌, ◌+◌, ◌-◌, arith, refl, to_z-of_z, IsAscii-signed, drop-set, IsAscii-append, IsAscii-cons, LONGEST_VALUE}
 use Rattle.tool_output.proofs.replies.values.write_value.Goals as goal
 
 pub returns-clause-ascii : goal.returns-clause-ascii

@@ -1,5 +1,4 @@
-use Rattle.std.proofs.Common.{ap, map}
-use Rattle.user_events.specs.Events.{event_view}
+use Rattle.user_events.proofs.Words.{ap, map, event_view}
 use Rattle.user_events.proofs.Taking.{none-taken}
 use Rattle.user_events.proofs.reading.EventRowsTableKind.no_rows.Goals as goal
 

@@ -1,8 +1,4 @@
-use Rattle.csv.specs.Records.{fields_of}
-use Rattle.preset_csv.proofs.TableKept.{length-presets}
-use Rattle.user_events.specs.Entries.{event_judged}
-use Rattle.user_events.specs.Lines.{line_of}
-use Rattle.user_events.specs.Reading.{taking}
+use Rattle.user_events.proofs.Words.{fields_of, length-presets, event_judged, line_of, taking}
 use Rattle.user_events.proofs.Taking.{event-line-kept, row-taken}
 use Rattle.user_events.proofs.reading.EventRowsTableKind.take_row.Goals as goal
 
