@@ -19,9 +19,10 @@ pub use Rattle.event_tables.specs.declared.component.Counter.{Counter}
 pub use Rattle.event_tables.specs.declared.component.EventRow.{EventRow}
 pub use Rattle.event_tables.specs.declared.component.UmaskRow.{UmaskRow}
 pub use Rattle.event_tables.specs.declared.fault.RowCause.{RowCause}
-pub use Rattle.event_tables.specs.declared.limits.TheConstants.{MOST_COMPONENTS, MOST_COMPONENT_EVENTS, MOST_COUNTERS, MOST_UMASKS}
+pub use Rattle.event_tables.specs.declared.limits.TheConstants.{MOST_COMPONENT_EVENTS, MOST_UMASKS}
 pub use Rattle.event_tables.specs.declared.row.Row.{Row}
 pub use Rattle.papi_base.proofs.Steps.{all_at, list_any-map, passed_over}
+pub use Rattle.papi_base.specs.declared.limits.TheConstants.{MOST_COMPONENTS, MOST_COUNTERS}
 pub use Rattle.std.proofs.Common.{Bool, Bor, Err, List, None, Ok, Option, Some, [], ap, append_assoc, ap₂, arith, codes, false, get_or, length}
 pub use Rattle.std.proofs.Common.{length-append, map, refl, rules, subst, suc, sym, take, tests, true, vec_len, zero, ℕ, ◌%◌, ◌*◌, ◌++◌, ◌+◌, ◌-◌}
 pub use Rattle.std.proofs.Common.{◌<◌, ◌^◌, ◌∙◌, ◌∷◌, ◌≡◌, ◌≤◌}

@@ -8,7 +8,8 @@ use Rattle.table_rows.specs.Texts.{Text, is_empty, is_name}
 use Rattle.event_tables.specs.Tables.{ComponentText, CounterText, EventText, MaskText, same_name}
 use Rattle.event_tables.specs.Lines.{Line, component, counter, event, umask, umask_counters}
 use Rattle.event_tables.specs.Unit.{modifier_words, within}
-use Rattle.event_tables.specs.declared.limits.TheConstants.{MOST_COMPONENTS, MOST_COMPONENT_EVENTS, MOST_COUNTERS, MOST_UMASKS}
+use Rattle.papi_base.specs.declared.limits.TheConstants.{MOST_COMPONENTS, MOST_COUNTERS}
+use Rattle.event_tables.specs.declared.limits.TheConstants.{MOST_COMPONENT_EVENTS, MOST_UMASKS}
 
 -- a counter with a name, of 16 to 48 bits
 pub record IsCounter (k : CounterText) : Type 0 where

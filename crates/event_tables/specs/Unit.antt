@@ -15,7 +15,8 @@ use Rattle.event_tables.specs.declared.fault.RowCause.{RowCause}
 use Rattle.event_tables.specs.declared.fault.RowCause.TheVariants as cause
 use Rattle.table_rows.specs.declared.fault.RowFault.{RowFault}
 use Rattle.event_tables.specs.declared.tables.Tables.{Tables}
-use Rattle.event_tables.specs.declared.limits.TheConstants.{MOST_COMPONENTS, MOST_COMPONENT_EVENTS, MOST_COUNTERS, MOST_UMASKS}
+use Rattle.papi_base.specs.declared.limits.TheConstants.{MOST_COMPONENTS, MOST_COUNTERS}
+use Rattle.event_tables.specs.declared.limits.TheConstants.{MOST_COMPONENT_EVENTS, MOST_UMASKS}
 
 -- ---- the tables of some rows: each row under the row to which it belongs
 

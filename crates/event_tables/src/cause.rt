@@ -5,7 +5,7 @@ ghost use Rattle.std.specs.List.{AllByRecursion, list_all, list_any};
 ghost use Rattle.table_rows.specs.Texts.{is_name};
 ghost use Rattle.event_tables.specs.Index.{IsIndexed};
 ghost use Rattle.event_tables.specs.Kept.{IsLine, IsTables};
-ghost use Rattle.event_tables.specs.declared.limits.TheConstants.{MOST_COUNTERS};
+ghost use Rattle.papi_base.specs.declared.limits.TheConstants.{MOST_COUNTERS};
 ghost use Rattle.event_tables.specs.Lines.{row_line, words_of, mask_of};
 ghost use Rattle.event_tables.specs.Tables as Tables;
 ghost use Rattle.event_tables.specs.Unit as Unit;
@@ -15,9 +15,10 @@ ghost use Rattle.std.specs.Str.{bytes_eq};
 use crate::component::{Component, Counter, EventRow, UmaskRow};
 use crate::counter_bits::{bits_of, counter_place};
 use crate::fault::RowCause;
-use crate::limits::{MOST_COMPONENT_EVENTS, MOST_COMPONENTS, MOST_COUNTERS, MOST_UMASKS};
+use crate::limits::{MOST_COMPONENT_EVENTS, MOST_UMASKS};
 use crate::lower_name::LowerName;
 use crate::row::{Flags, Row};
+use papi_base::{MOST_COMPONENTS, MOST_COUNTERS};
 
 fn same_name(a: &str, b: &str) -> bool
     ensures { result ≡ Tables.same_name a.now b.now }

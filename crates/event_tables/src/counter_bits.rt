@@ -2,7 +2,7 @@
 
 ghost use Rattle.std.specs.Prelude.{◌≡◌, ◌≤◌, length, map, if◌then◌else◌};
 ghost use Rattle.table_rows.specs.Texts.{is_empty};
-ghost use Rattle.event_tables.specs.declared.limits.TheConstants.{MOST_COUNTERS};
+ghost use Rattle.papi_base.specs.declared.limits.TheConstants.{MOST_COUNTERS};
 ghost use Rattle.event_tables.specs.Lines.{words_of};
 ghost use Rattle.event_tables.specs.Unit as Unit;
 ghost use Rattle.event_tables.specs.Views.{counter_text};

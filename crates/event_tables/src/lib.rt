@@ -14,9 +14,7 @@ mod unit;
 
 pub use crate::component::{Component, Counter, EventRow, FixedMods, UmaskRow};
 pub use crate::fault::{RowCause, TableFault, cause_text};
-pub use crate::limits::{
-    LONGEST_DESCRIPTION, MOST_COMPONENT_EVENTS, MOST_COMPONENTS, MOST_COUNTERS, MOST_UMASKS,
-};
+pub use crate::limits::{LONGEST_DESCRIPTION, MOST_COMPONENT_EVENTS, MOST_UMASKS};
 pub use crate::lower_name::LowerName;
 pub use crate::tables::Tables;
 pub use crate::unit::read_unit;

@@ -1,10 +1,4 @@
-//! How much a unit file may have.
-
-/// The components of a unit.
-pub const MOST_COMPONENTS: usize = 16;
-
-/// The counters of a component.
-pub const MOST_COUNTERS: usize = 32;
+//! How much a unit file may have, beside the components of a unit and the counters of a component (papi_base).
 
 /// The events of a component.
 pub const MOST_COMPONENT_EVENTS: usize = 1024;

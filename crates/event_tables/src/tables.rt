@@ -5,7 +5,7 @@ ghost use Rattle.std.specs.List.{AllByRecursion};
 ghost use Rattle.event_tables.specs.Index.{AreKept};
 ghost use Rattle.event_tables.specs.Kept.{IsCounter, IsTables};
 ghost use Rattle.event_tables.specs.Tables as Texts;
-ghost use Rattle.event_tables.specs.declared.limits.TheConstants.{MOST_COUNTERS};
+ghost use Rattle.papi_base.specs.declared.limits.TheConstants.{MOST_COUNTERS};
 ghost use Rattle.event_tables.specs.Views.{component_text, counter_text, event_text};
 
 use crate::component::{Component, Counter, EventRow};

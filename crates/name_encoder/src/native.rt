@@ -2,7 +2,8 @@
 
 ghost use Rattle.std.specs.Prelude.{◌≡◌, ◌≤◌, ◌<◌, ◌^◌, List, Bool, map, not, take, length, option_map, vec_len, if◌then◌else◌, Some, None};
 ghost use Rattle.event_tables.specs.Views.{counter_text, event_text, mask_text};
-ghost use Rattle.event_tables.specs.declared.limits.TheConstants.{MOST_COUNTERS, MOST_UMASKS};
+ghost use Rattle.papi_base.specs.declared.limits.TheConstants.{MOST_COUNTERS};
+ghost use Rattle.event_tables.specs.declared.limits.TheConstants.{MOST_UMASKS};
 ghost use Rattle.name_encoder.specs.Flags as Flags;
 ghost use Rattle.name_encoder.specs.Judged as Judged;
 ghost use Rattle.name_encoder.specs.Names as Names;

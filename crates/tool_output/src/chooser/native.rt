@@ -3,7 +3,8 @@
 ghost use Rattle.std.specs.Prelude.{◌≡◌, ◌<◌, ◌≤◌, [], vec_len};
 ghost use Rattle.tool_output.specs.Candidates as Candidates;
 ghost use Rattle.event_tables.specs.Tables.{ComponentText};
-ghost use Rattle.event_tables.specs.declared.limits.TheConstants.{MOST_COUNTERS, MOST_UMASKS};
+ghost use Rattle.papi_base.specs.declared.limits.TheConstants.{MOST_COUNTERS};
+ghost use Rattle.event_tables.specs.declared.limits.TheConstants.{MOST_UMASKS};
 ghost use Rattle.event_tables.specs.Views.{component_text, event_text};
 ghost use Rattle.name_encoder.specs.Names as Names;
 
