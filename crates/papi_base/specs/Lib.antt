@@ -1,6 +1,7 @@
 pub mod Adapter
 pub mod Codes
 pub mod Entries
+pub mod LineCauses
 pub mod Memory
 pub mod Numerals
 pub mod Outside

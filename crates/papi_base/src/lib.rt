@@ -30,7 +30,7 @@ pub use limits::{
 };
 pub use memory::{MemSink, MemSource};
 pub use native::{EventRef, Mods, Native};
-pub use occurrence::{LineCause, Occ, weight};
+pub use occurrence::{LineCause, Occ, cause_text, weight};
 pub use outside::{Ending, Failed, Files, OpenFail, Sink, Source, WriteFail};
 pub use shape::{CompShape, Shape};
 pub use short_list::{Counts, Events, Natives, Places, ShortList, Values};

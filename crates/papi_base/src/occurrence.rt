@@ -1,6 +1,7 @@
 //! Occurrences, and what they add to a native event's count.
 ghost use Rattle.std.specs.Prelude.{◌≡◌, ◌≤◌};
 ghost use Rattle.std.specs.Option.{option_copied};
+ghost use Rattle.papi_base.specs.LineCauses.{cause_text};
 ghost use Rattle.papi_base.specs.Weight.{held, holds, in_mode, is_of, weight_of};
 
 use crate::{Domain, Native};
@@ -28,6 +29,19 @@ pub enum LineCause {
     Fields,
     Field,
     Stamp,
+}
+
+/// The cause as it is written on the line that names it (docs/FORMATS.md).
+pub fn cause_text(cause: LineCause) -> &'static str
+    ensures { result.now ≡ cause_text cause }
+{
+    match cause {
+        LineCause::Long => "line too long",
+        LineCause::Size => "stream too long",
+        LineCause::Fields => "wrong number of fields",
+        LineCause::Field => "bad field",
+        LineCause::Stamp => "stamp does not rise",
+    }
 }
 
 /// Whether the occurrence's mode is in the native event's privilege mask, which is the domain if it has none.

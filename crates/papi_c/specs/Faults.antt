@@ -1,6 +1,7 @@
 -- What is wrong with a file, as papi_run says it: this project's own, docs/FORMATS.md.
 use Rattle.std.specs.Prelude.{ℕ, ℤ, ◌≡◌, ◌==◌, ◌⊎◌, codes, if◌then◌else◌, negsuc, option_map, IsUtf8, List, [], Option, Some, None}
 use Rattle.event_tables.specs.Unit as Unit
+use Rattle.papi_base.specs.LineCauses.{cause_text}
 use Rattle.papi_base.specs.declared.occurrence.LineCause.{LineCause}
 use Rattle.papi_base.specs.declared.occurrence.LineCause.TheVariants as cause
 use Rattle.papi_c.specs.Placed.{ArePlaced, IsRefused}
@@ -61,10 +62,10 @@ fault_of ended.Fault = record { line = 0; cause = 6 }
 -- the words of a cause by its number, as papi_run says them, and none if no cause has it
 abbrev pub cause_words : ℕ → List ℕ
 cause_words number =
-    if number == 1 then codes "line too long"
-    else if number == 2 then codes "stream too long"
-    else if number == 3 then codes "wrong number of fields"
-    else if number == 4 then codes "bad field"
-    else if number == 5 then codes "stamp does not rise"
+    if number == 1 then cause_text cause.Long
+    else if number == 2 then cause_text cause.Size
+    else if number == 3 then cause_text cause.Fields
+    else if number == 4 then cause_text cause.Field
+    else if number == 5 then cause_text cause.Stamp
     else if number == 6 then codes "read failed"
     else []

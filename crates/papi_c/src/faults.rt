@@ -7,7 +7,7 @@ ghost use Rattle.papi_c.specs.Placed.{ArePlaced};
 use crate::handle::{EINVAL, ENOMEM};
 use crate::texts::spell;
 use event_tables::{TableFault, cause_text as row_text, read_unit};
-use papi_base::LineCause;
+use papi_base::{LineCause, cause_text};
 use preset_csv::{PresetFault, cause_text as preset_text};
 use session_model::Ended;
 use std::alloc::Global;
@@ -105,11 +105,11 @@ fn words_of(number: u32) -> &'static str
     ensures { result.now ≡ Faults.cause_words number }
 {
     match number {
-        1 => "line too long",
-        2 => "stream too long",
-        3 => "wrong number of fields",
-        4 => "bad field",
-        5 => "stamp does not rise",
+        1 => cause_text(LineCause::Long),
+        2 => cause_text(LineCause::Size),
+        3 => cause_text(LineCause::Fields),
+        4 => cause_text(LineCause::Field),
+        5 => cause_text(LineCause::Stamp),
         6 => "read failed",
         _ => "",
     }

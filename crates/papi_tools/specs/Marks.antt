@@ -2,8 +2,7 @@
 use Rattle.std.specs.Prelude.{◌+◌, ℕ, Bool, true, false, List, [], ◌∷◌, ◌++◌, codes, Option, Some, None, if◌then◌else◌}
 use Rattle.std.specs.List.{list_any}
 use Rattle.std.specs.Fmt.{decimal}
-use Rattle.papi_base.specs.declared.occurrence.LineCause.{LineCause}
-use Rattle.papi_base.specs.declared.occurrence.LineCause.TheVariants as cause
+use Rattle.papi_base.specs.LineCauses.{cause_text}
 use Rattle.session_model.specs.declared.reply.Ended.{Ended}
 use Rattle.session_model.specs.declared.reply.Ended.TheVariants.{Going, Bad, Fault}
 use Rattle.papi_tools.specs.declared.said.Said.{Said}
@@ -27,18 +26,10 @@ outcome_at marks =
     else if list_any is_bad marks then outcome.Refused
     else outcome.Whole
 
--- what is wrong with a line of a stream
-abbrev pub cause_words : LineCause → List ℕ
-cause_words cause.Long = codes "line too long"
-cause_words cause.Size = codes "stream too long"
-cause_words cause.Fields = codes "wrong number of fields"
-cause_words cause.Field = codes "bad field"
-cause_words cause.Stamp = codes "stamp does not rise"
-
 -- the line on standard error of a thread's mark
 abbrev pub mark_line : ℕ → Option Ended → List ℕ
 mark_line t (Some (Bad line cause)) =
-    codes "papi: stream " ++ (decimal t ++ (codes ": line " ++ (decimal line ++ (codes ": " ++ (cause_words cause ++ codes "\n")))))
+    codes "papi: stream " ++ (decimal t ++ (codes ": line " ++ (decimal line ++ (codes ": " ++ (cause_text cause ++ codes "\n")))))
 mark_line t (Some Fault) = codes "papi: stream " ++ (decimal t ++ codes ": read failed\n")
 mark_line t (Some Going) = []
 mark_line t None = []

@@ -1,10 +1,10 @@
 //! What is said of the marks that runs met, thread by thread.
 ghost use Rattle.std.specs.Prelude.{◌≡◌, IfOk, string_bytes};
 ghost use Rattle.std.specs.List.{list_any};
-ghost use Rattle.papi_tools.specs.Marks.{cause_words, is_bad, is_fault, mark_line, mark_lines, marked_said, outcome_at};
+ghost use Rattle.papi_tools.specs.Marks.{is_bad, is_fault, mark_line, mark_lines, marked_said, outcome_at};
 
 use crate::{Outcome, Output, Said};
-use papi_base::{Bytes, LineCause};
+use papi_base::{Bytes, cause_text};
 use session_model::Ended;
 use std::alloc::{AllocError, Global};
 
@@ -32,19 +32,6 @@ fn outcome_of(marks: &[Option<Ended>]) -> Outcome
         Outcome::Refused
     } else {
         Outcome::Whole
-    }
-}
-
-// What is wrong with a line of a stream.
-fn cause_text(cause: LineCause) -> &'static str
-    ensures { result.now ≡ cause_words cause }
-{
-    match cause {
-        LineCause::Long => "line too long",
-        LineCause::Size => "stream too long",
-        LineCause::Fields => "wrong number of fields",
-        LineCause::Field => "bad field",
-        LineCause::Stamp => "stamp does not rise",
     }
 }
 
