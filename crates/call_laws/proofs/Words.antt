@@ -24,8 +24,9 @@ pub use Rattle.call_laws.specs.Values.{AccumShows, ReadShows, StopShows, added, 
 pub use Rattle.counter_alloc.proofs.Fitting.{assignable_of, is_assignable_true, mask_small, not_assignable_of}
 pub use Rattle.counter_alloc.proofs.Listed.{In, Ordered, listed, of_listed, ordered_assigns}
 pub use Rattle.counter_alloc.specs.Assignments.{Assignable, AtOrBefore, IsLeast}
-pub use Rattle.counter_alloc.specs.BlameOf.{blame_of, deficient_sets, shortest_prefix}
-pub use Rattle.counter_alloc.specs.Listing.{IsBefore, assigns, choices, is_assignable, least, members}
+unfoldable pub use Rattle.counter_alloc.specs.BlameOf.{blame_of, deficient_sets, shortest_prefix}
+pub use Rattle.counter_alloc.specs.Listing.{IsBefore, is_assignable, least}
+unfoldable pub use Rattle.counter_alloc.specs.Listing.{assigns, choices, members}
 pub use Rattle.counter_alloc.specs.Masks.{AreMasks, masks_of}
 pub use Rattle.event_sets.proofs.Agreeing.{by_number, numbered}
 pub use Rattle.event_sets.proofs.Clashing.{are_masks}
@@ -61,8 +62,10 @@ pub use Rattle.postfix_rules.specs.NativeCodes.{native_code, native_named}
 pub use Rattle.postfix_rules.specs.Presets.{Book, event_value, lead, natives_of_event, rule_of_event}
 pub use Rattle.postfix_rules.specs.Rules.{first_less_others, rule_value}
 pub use Rattle.postfix_rules.specs.Sameness.{among, joined_by, same_native}
-pub use Rattle.postfix_rules.specs.Trees.{Constant, Count, Node, Tree, pile_from}
-pub use Rattle.postfix_rules.specs.Values.{applied, divided, signed_sum, top_value, tree_value, wrapped}
+pub use Rattle.postfix_rules.specs.Trees.{Constant, Count, Node, Tree}
+unfoldable pub use Rattle.postfix_rules.specs.Trees.{pile_from}
+pub use Rattle.postfix_rules.specs.Values.{applied, top_value, wrapped}
+unfoldable pub use Rattle.postfix_rules.specs.Values.{divided, signed_sum, tree_value}
 pub use Rattle.postfix_rules.specs.declared.rule.Rule.{Rule}
 pub use Rattle.postfix_rules.specs.declared.token.Operator.{Operator}
 pub use Rattle.region_report.proofs.Counted.{not_reading, reading}
@@ -70,10 +73,14 @@ pub use Rattle.region_report.specs.Calls.{has_lines}
 pub use Rattle.region_report.specs.Kept.{count_of}
 pub use Rattle.region_report.specs.Lines.{Open, after_line, after_reading, begin_call, begun_name, begun_of, by_script, innermost, innermost_call}
 pub use Rattle.region_report.specs.Lines.{innermost_name, is_reading, line_of_thread, line_of_words, line_with, one_name, open_of, reads_call}
-pub use Rattle.region_report.specs.Lines.{region_call, region_line, run_call}
-pub use Rattle.region_report.specs.Reports.{is_begin, name_of, report_text}
-pub use Rattle.region_report.specs.Scripts.{above_line, all_ended, none_open, region_scripts, regions_of}
-pub use Rattle.region_report.specs.Spans.{difference, pairwise, span, spans_from}
+pub use Rattle.region_report.specs.Lines.{region_call, run_call}
+unfoldable pub use Rattle.region_report.specs.Lines.{region_line}
+pub use Rattle.region_report.specs.Reports.{is_begin, name_of}
+unfoldable pub use Rattle.region_report.specs.Reports.{report_text}
+pub use Rattle.region_report.specs.Scripts.{above_line, all_ended, none_open, region_scripts}
+unfoldable pub use Rattle.region_report.specs.Scripts.{regions_of}
+pub use Rattle.region_report.specs.Spans.{difference, span}
+unfoldable pub use Rattle.region_report.specs.Spans.{pairwise, spans_from}
 pub use Rattle.region_report.specs.declared.fault.RegionCause.{RegionCause}
 pub use Rattle.region_report.specs.declared.fault.RegionCause.TheVariants.{NotEnded, OverLimit, UnknownCall, WrongRegion}
 pub use Rattle.region_report.specs.declared.regions.RegionCall.{RegionCall}
@@ -82,7 +89,8 @@ pub use Rattle.region_report.specs.declared.regions.TheConstants.{MOST_LINES}
 pub use Rattle.region_report.specs.declared.reports.Reading.{Reading}
 pub use Rattle.script_lines.specs.Answers.{and_then}
 pub use Rattle.script_lines.specs.Arguments.{one_number}
-pub use Rattle.script_lines.specs.ByLine.{Refused, lines_from, onto, put_before}
+pub use Rattle.script_lines.specs.ByLine.{Refused, onto, put_before}
+unfoldable pub use Rattle.script_lines.specs.ByLine.{lines_from}
 pub use Rattle.script_lines.specs.Calls.{Written}
 pub use Rattle.script_lines.specs.Lines.{is_skipped}
 pub use Rattle.script_lines.specs.Words.{words_of}
@@ -135,14 +143,16 @@ pub use Rattle.std.proofs.lemmas.List.Sums.{sum_by-append, sum_by-cons}
 pub use Rattle.std.proofs.lemmas.Nat.{div_below, le-div, mod_below}
 pub use Rattle.std.proofs.lemmas.Option.{slice_get_within}
 pub use Rattle.std.proofs.lemmas.Slice.Eq.{bytes_eq-Decides}
-pub use Rattle.std.specs.Fmt.{digits}
-pub use Rattle.std.specs.Int.{cast_signed, cast_unsigned, int_wrap, int_wrapping_add, int_wrapping_sub, w64}
+unfoldable pub use Rattle.std.specs.Fmt.{digits}
+pub use Rattle.std.specs.Int.{cast_signed, cast_unsigned, int_wrapping_add, int_wrapping_sub, w64}
+unfoldable pub use Rattle.std.specs.Int.{int_wrap}
 pub use Rattle.std.specs.List.{flat_map, list_all, list_any, position_or_len, range_with_len}
 pub use Rattle.std.specs.Option.{option_and_then, option_map, option_map_or}
 pub use Rattle.std.specs.Prelude.{if◌then◌else◌, ⊤}
 pub use Rattle.stream_reader.proofs.Bounds.{IsLine, line-occurrence, stamp-fits, state-next}
 pub use Rattle.stream_reader.specs.Judged.{is_above, judged}
-pub use Rattle.stream_reader.specs.Occurs.{IsStart, after, first_start, joined, least_stamp, occurs_from, occurs_of}
+pub use Rattle.stream_reader.specs.Occurs.{IsStart, after, first_start, joined, least_stamp}
+unfoldable pub use Rattle.stream_reader.specs.Occurs.{occurs_from, occurs_of}
 pub use Rattle.stream_reader.specs.declared.line.Judgement.{Judgement}
 pub use Rattle.stream_reader.specs.declared.line.Judgement.TheVariants.{Bad, Occurs, Skipped, Version}
 pub use Rattle.stream_reader.specs.declared.line.LineStart.{LineStart}

@@ -1,8 +1,10 @@
 -- The words that the proofs of this crate share, passed on from one place. Declares nothing.
-pub use Rattle.component_table.specs.Books.{are_together, available_from, book_of, derived_by, derived_from, derived_if, derived_of, events_from}
-pub use Rattle.component_table.specs.Books.{is_available, kept_if, natives_named, rows_in, rule_of, with_first}
+pub use Rattle.component_table.specs.Books.{are_together, book_of, derived_by, derived_from, derived_if, derived_of, is_available, kept_if, rows_in}
+pub use Rattle.component_table.specs.Books.{rule_of, with_first}
+unfoldable pub use Rattle.component_table.specs.Books.{available_from, events_from, natives_named}
 pub use Rattle.component_table.specs.Catalogs.{CatalogView, IsCatalog, code_of_row, row_count}
-pub use Rattle.component_table.specs.Codes.{code_in, row_codes}
+pub use Rattle.component_table.specs.Codes.{code_in}
+unfoldable pub use Rattle.component_table.specs.Codes.{row_codes}
 pub use Rattle.component_table.specs.Laws.{Available, ExactlyAvailable, named}
 pub use Rattle.event_tables.specs.Tables.{ComponentText, shape_of}
 pub use Rattle.name_encoder.specs.Names.{FitsShape, names}

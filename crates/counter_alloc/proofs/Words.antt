@@ -1,10 +1,12 @@
 -- The words that the proofs of this crate share, passed on from one place. Declares nothing.
 pub use Rattle.counter_alloc.specs.Assignments.{Assignable, AtOrBefore, Deficient, Has, IsAssignment, IsLeast, IsLeastDeficient, IsShortestPrefix}
 pub use Rattle.counter_alloc.specs.Assignments.{counters_from, counters_of}
-pub use Rattle.counter_alloc.specs.BlameOf.{blame_of, deficient_sets, in_each_set, shortest_prefix}
+pub use Rattle.counter_alloc.specs.BlameOf.{in_each_set}
+unfoldable pub use Rattle.counter_alloc.specs.BlameOf.{blame_of, deficient_sets, shortest_prefix}
 pub use Rattle.counter_alloc.specs.Blames.{IsBlame}
 pub use Rattle.counter_alloc.specs.Laws.{BlameStays, ComputesBlame, IsLeastSet, LeastSet, ListsEach, ListsInOrder, ListsSome, OneBlame, OneLeast}
-pub use Rattle.counter_alloc.specs.Listing.{IsBefore, all_distinct, assigns, choices, is_assignable, least, members}
+pub use Rattle.counter_alloc.specs.Listing.{IsBefore, all_distinct, is_assignable, least}
+unfoldable pub use Rattle.counter_alloc.specs.Listing.{assigns, choices, members}
 pub use Rattle.counter_alloc.specs.Masks.{AreMasks}
 pub use Rattle.counter_alloc.specs.Matchings.{IsMatching, MatchingView}
 pub use Rattle.counter_alloc.specs.Search.{AreHeld, CanWalk, Grows, Holds, IsFree, IsTrail, Reaches}

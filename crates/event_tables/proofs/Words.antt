@@ -1,18 +1,19 @@
 -- The words that the proofs of this crate share, passed on from one place. Declares nothing.
-pub use Rattle.csv.proofs.OnLiterals.{csv_on_literals}
+unfoldable pub use Rattle.csv.proofs.OnLiterals.{csv_on_literals}
 pub use Rattle.csv.specs.Records.{fields_of}
 pub use Rattle.event_tables.specs.Index.{GiveComponents, IsIndexed}
 pub use Rattle.event_tables.specs.Kept.{HasCounters, IsComponent, IsCounter, IsEvent, IsEventLine, IsLine, IsMask, IsMaskLine, IsTables, IsWidth}
 pub use Rattle.event_tables.specs.Lines.{Line, are_names, bad, component, component_line, counter, counter_line, event, event_line, fixed_mods}
-pub use Rattle.event_tables.specs.Lines.{fixed_mods_of, fixes_one, flags_of, is_description, line_of, mask_of, row_line, skipped, umask}
-pub use Rattle.event_tables.specs.Lines.{umask_counters, umask_counters_line, umask_line, umask_modifiers, umask_modifiers_line, words_of}
+pub use Rattle.event_tables.specs.Lines.{fixes_one, is_description, mask_of, row_line, skipped, umask, umask_counters, umask_counters_line}
+pub use Rattle.event_tables.specs.Lines.{umask_line, umask_modifiers, umask_modifiers_line}
+unfoldable pub use Rattle.event_tables.specs.Lines.{fixed_mods_of, flags_of, line_of, words_of}
 pub use Rattle.event_tables.specs.Steps.{CanGrow, HasMask, grown, on_last_mask, with_counter, with_event, with_inner_mask, with_last_mask, with_line}
 pub use Rattle.event_tables.specs.Steps.{with_mask}
 pub use Rattle.event_tables.specs.Tables.{ComponentText, CounterText, EventText, MaskText, row_of_lower, same_name, shape_of}
-pub use Rattle.event_tables.specs.Unit.{bits_of, cause_in, component_cause, component_of, components_in, counter_cause, counter_place, counter_row}
-pub use Rattle.event_tables.specs.Unit.{counters_in, event_cause, event_row, events_in, fixing, inner_cause, inner_counters_cause, inner_mask_cause}
-pub use Rattle.event_tables.specs.Unit.{is_modifier, last_of, mask_cause, masks_in, modifier_words, on_last, place_bit, restricted, row_cause}
-pub use Rattle.event_tables.specs.Unit.{unit_fault, unit_tables, within}
+pub use Rattle.event_tables.specs.Unit.{bits_of, component_cause, component_of, counter_cause, counter_place, counter_row, event_cause, event_row}
+pub use Rattle.event_tables.specs.Unit.{fixing, inner_cause, inner_counters_cause, inner_mask_cause, is_modifier, last_of, mask_cause, modifier_words}
+pub use Rattle.event_tables.specs.Unit.{place_bit, restricted, row_cause, within}
+unfoldable pub use Rattle.event_tables.specs.Unit.{cause_in, components_in, counters_in, events_in, masks_in, on_last, unit_fault, unit_tables}
 pub use Rattle.event_tables.specs.Views.{component_text, counter_text, event_text, mask_text}
 pub use Rattle.event_tables.specs.declared.component.Component.{Component}
 pub use Rattle.event_tables.specs.declared.component.Counter.{Counter}
@@ -54,8 +55,9 @@ pub use Rattle.std.specs.Str.{bytes_eq, str_to_ascii_lowercase}
 pub use Rattle.table_rows.proofs.Numerals.{name_byte-ascii}
 pub use Rattle.table_rows.proofs.Ranges.{decimal_in-range, hex_in-range}
 pub use Rattle.table_rows.proofs.Texts.{all-append, all-map, given, no_two-more, option_both}
-pub use Rattle.table_rows.specs.Rows.{rows_of}
-pub use Rattle.table_rows.specs.Tables.{NoTwo, RefusesRow, TakesRow, first_fault}
-pub use Rattle.table_rows.specs.Texts.{Text, decimal_in, hex_in, is_decimal, is_empty, is_name, is_name_byte, is_numeral, is_skipped, text_at}
-pub use Rattle.table_rows.specs.Texts.{trimmed, without_front}
+unfoldable pub use Rattle.table_rows.specs.Rows.{rows_of}
+pub use Rattle.table_rows.specs.Tables.{NoTwo, RefusesRow, TakesRow}
+unfoldable pub use Rattle.table_rows.specs.Tables.{first_fault}
+pub use Rattle.table_rows.specs.Texts.{Text, is_empty, is_name_byte, is_skipped}
+unfoldable pub use Rattle.table_rows.specs.Texts.{decimal_in, hex_in, is_decimal, is_name, is_numeral, text_at, trimmed, without_front}
 pub use Rattle.table_rows.specs.declared.fault.RowRefusal.{RowRefusal}

@@ -6,18 +6,22 @@ pub use Rattle.event_tables.specs.Tables.{widths_of}
 pub use Rattle.event_tables.specs.Views.{component_text, counter_text, event_text, mask_text}
 pub use Rattle.event_tables.specs.declared.component.FixedMods.{FixedMods}
 pub use Rattle.event_tables.specs.declared.component.UmaskRow.{UmaskRow}
-pub use Rattle.name_encoder.specs.Canonical.{ReadsBack, canonical, code64, flags_in, free_mods, masks_text, mods_text, text_if}
-pub use Rattle.name_encoder.specs.Flags.{bits_of, flag_bit}
-pub use Rattle.name_encoder.specs.Judged.{all_given, flags_given, given_next, is_named, mask_given, meaning_text, modifier_given, mods_given}
-pub use Rattle.name_encoder.specs.Judged.{native_next, nothing, said_given, value_given, wanted_given, with_mask, with_value}
+pub use Rattle.name_encoder.specs.Canonical.{ReadsBack, free_mods, text_if}
+unfoldable pub use Rattle.name_encoder.specs.Canonical.{canonical, code64, flags_in, masks_text, mods_text}
+pub use Rattle.name_encoder.specs.Flags.{flag_bit}
+unfoldable pub use Rattle.name_encoder.specs.Flags.{bits_of}
+pub use Rattle.name_encoder.specs.Judged.{flags_given, given_next, is_named, mask_given, meaning_text, modifier_given, mods_given, native_next}
+pub use Rattle.name_encoder.specs.Judged.{nothing, said_given, value_given, wanted_given, with_mask, with_value}
+unfoldable pub use Rattle.name_encoder.specs.Judged.{all_given}
 pub use Rattle.name_encoder.specs.Names.{FitsShape, Found, Meaning, Modifier, SaidAttribute, Wanted, agrees, allowed_with, asks_other, both_fixed}
-pub use Rattle.name_encoder.specs.Names.{choice, choices, chosen, clashes, cmask, cmask_value, common_of, contradicts, edge, event_allowed}
-pub use Rattle.name_encoder.specs.Names.{event_fixed, event_from, fault_from, fixed_if, fixed_of, flag_value, found_from, given_to, has_true, invert}
-pub use Rattle.name_encoder.specs.Names.{is_set, kernel, mask, mask_row, meaning_fault, meaning_of, means, met, modifier, modifier_of, mods_of}
-pub use Rattle.name_encoder.specs.Names.{named_event, named_found, named_from, names, names_alone, names_mask, native_chosen, native_of, native_or}
-pub use Rattle.name_encoder.specs.Names.{native_unless, programmable, rank, row_alone, said_fault, said_of, saids_of, same_meaning, set_to}
-pub use Rattle.name_encoder.specs.Names.{umasks_fault, user, value_of, values_of, wanted_of, with_fixed}
-pub use Rattle.name_encoder.specs.Split.{Split, attribute_of, cut_at, split}
+pub use Rattle.name_encoder.specs.Names.{choice, choices, chosen, clashes, cmask, contradicts, edge, event_allowed, event_fixed, fixed_if, given_to}
+pub use Rattle.name_encoder.specs.Names.{has_true, invert, is_set, kernel, mask, mask_row, meaning_fault, means, met, modifier, mods_of, named_event}
+pub use Rattle.name_encoder.specs.Names.{named_found, names_alone, names_mask, native_chosen, native_of, native_or, native_unless, programmable, rank}
+pub use Rattle.name_encoder.specs.Names.{row_alone, said_fault, said_of, saids_of, same_meaning, umasks_fault, user, value_of, wanted_of, with_fixed}
+unfoldable pub use Rattle.name_encoder.specs.Names.{cmask_value, common_of, event_from, fault_from, fixed_of, flag_value, found_from, meaning_of}
+unfoldable pub use Rattle.name_encoder.specs.Names.{modifier_of, named_from, names, set_to, values_of}
+pub use Rattle.name_encoder.specs.Split.{Split}
+unfoldable pub use Rattle.name_encoder.specs.Split.{attribute_of, cut_at, split}
 pub use Rattle.name_encoder.specs.Views.{between_colons, found_text, parts_split, text_of}
 pub use Rattle.name_encoder.specs.declared.attribute.Attributes.{Attributes}
 pub use Rattle.name_encoder.specs.declared.fault.NameFault.{NameFault}
@@ -45,7 +49,7 @@ pub use Rattle.std.proofs.lemmas.Result.{IfOk-weaker}
 pub use Rattle.std.proofs.lemmas.Slice.Eq.{bytes_eq-Decides}
 pub use Rattle.std.specs.Borrow.{Bor}
 pub use Rattle.std.specs.Char.{to_ascii_lowercase}
-pub use Rattle.std.specs.Fmt.{digits}
+unfoldable pub use Rattle.std.specs.Fmt.{digits}
 pub use Rattle.std.specs.Int.RustNames.{bit_and, bit_or}
 pub use Rattle.std.specs.List.{AllByRecursion, list_all, list_any, onto_first, position_from, slice_split, starts_with}
 pub use Rattle.std.specs.Option.{option_and_then, option_map_or, option_or}
@@ -55,5 +59,6 @@ pub use Rattle.table_rows.proofs.Ranges.{decimal_in-range, hex_in-range}
 pub use Rattle.table_rows.proofs.Splits.{rest-whole}
 pub use Rattle.table_rows.proofs.Texts.{Digits, all-append, all-map, decimal-digits, given, or-false}
 pub use Rattle.table_rows.specs.Tables.{NoTwo}
-pub use Rattle.table_rows.specs.Texts.{Text, decimal_in, hex_in, is_decimal, is_name, is_name_byte, is_numeral}
+pub use Rattle.table_rows.specs.Texts.{Text, is_name_byte}
+unfoldable pub use Rattle.table_rows.specs.Texts.{decimal_in, hex_in, is_decimal, is_name, is_numeral}
 pub use mir.Val.{bool_byte}

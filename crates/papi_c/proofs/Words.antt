@@ -27,9 +27,9 @@ pub use Rattle.std_alloc.specs.Box.Ownership.{box_owns}
 pub use Rattle.std_heap.specs.contracts.GlobalAllocator.TheImpl.{dict, ghosts}
 pub use Rattle.table_rows.proofs.ReaderRows.{rows-few}
 pub use Rattle.table_rows.specs.Rows.{rows_of}
-pub use Rattle.table_rows.specs.Tables.{first_fault}
+unfoldable pub use Rattle.table_rows.specs.Tables.{first_fault}
 pub use Rattle.thread_core.specs.Following.{reply_of}
-pub use Rattle.user_events.specs.Rows.{extended_fault}
+unfoldable pub use Rattle.user_events.specs.Rows.{extended_fault}
 pub use base.Fml.{flft, fsep, ftrue}
 pub use base.Logic.{SProp, emp, ent, fst∗, guard_i, id⊢, never}
 pub use contract.BorrowLft.{◌⊑◌}

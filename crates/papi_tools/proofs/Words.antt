@@ -14,7 +14,8 @@ pub use Rattle.name_encoder.specs.Names.{names}
 pub use Rattle.overflow_dispatch.proofs.SinceLemmas.{added_is_told}
 pub use Rattle.overflow_dispatch.specs.Notes.{EachAdded, EachBegun, EachGrown, told_since}
 pub use Rattle.overflow_dispatch.specs.declared.handler.Note.{Note}
-pub use Rattle.papi_base.specs.Numerals.{decimal_in, is_decimal}
+pub use Rattle.papi_base.specs.Numerals.{is_decimal}
+unfoldable pub use Rattle.papi_base.specs.Numerals.{decimal_in}
 pub use Rattle.papi_base.specs.Outside.{Held, Rose, Tape, appended, next_count, renumbered}
 pub use Rattle.papi_base.specs.Streams.{Coming}
 pub use Rattle.papi_base.specs.Whole.{AnswersWhole}
@@ -27,33 +28,45 @@ pub use Rattle.papi_base.specs.declared.outside.OpenFail.{OpenFail}
 pub use Rattle.papi_base.specs.declared.whole.WholeFault.{WholeFault}
 pub use Rattle.papi_tools.specs.Carried.{CarriesOut, CarriesOutAndTells, CarriesOutOver}
 pub use Rattle.papi_tools.specs.Causes.{CausesAreShown, IsOwn, StatusIsOwn}
-pub use Rattle.papi_tools.specs.Choosing.{choice_said, chooser_verdict}
-pub use Rattle.papi_tools.specs.Contents.{after_presets, after_tables, catalog_under, catalog_with, content_under, lines_unless, map_under}
-pub use Rattle.papi_tools.specs.Contents.{presets_asked, presets_of, regions_in, regions_under, script_in, script_under, unit_under}
-pub use Rattle.papi_tools.specs.Decoding.{decode_verdict, decoded_in, decoded_said, decoded_with, shown_in}
-pub use Rattle.papi_tools.specs.Encoding.{encode_verdict, encoded_said, encoding_lines}
+pub use Rattle.papi_tools.specs.Choosing.{choice_said}
+unfoldable pub use Rattle.papi_tools.specs.Choosing.{chooser_verdict}
+pub use Rattle.papi_tools.specs.Contents.{after_presets, after_tables, catalog_with, content_under, lines_unless, map_under, presets_asked}
+pub use Rattle.papi_tools.specs.Contents.{presets_of, regions_in, regions_under, script_in, script_under, unit_under}
+unfoldable pub use Rattle.papi_tools.specs.Contents.{catalog_under}
+pub use Rattle.papi_tools.specs.Decoding.{decoded_in, decoded_said, decoded_with, shown_in}
+unfoldable pub use Rattle.papi_tools.specs.Decoding.{decode_verdict}
+pub use Rattle.papi_tools.specs.Encoding.{encoding_lines}
+unfoldable pub use Rattle.papi_tools.specs.Encoding.{encode_verdict, encoded_said}
 pub use Rattle.papi_tools.specs.ErrorLines.{outcome_of}
 pub use Rattle.papi_tools.specs.Looking.{FilesSeen, HasFileCause, IsTextual, Looked, SaysNo, Shows, SinkSeen, StaysHeld, StopsByFile, held_after}
 pub use Rattle.papi_tools.specs.Looking.{refused_after}
 pub use Rattle.papi_tools.specs.Marks.{is_bad, is_fault, mark_lines, marked_said, outcome_at}
-pub use Rattle.papi_tools.specs.NativeListing.{native_avail_verdict, natives_said}
+pub use Rattle.papi_tools.specs.NativeListing.{natives_said}
+unfoldable pub use Rattle.papi_tools.specs.NativeListing.{native_avail_verdict}
 pub use Rattle.papi_tools.specs.Openings.{Absent, Answers, AnswersBy, ByName, CanGive, CanOpen, Ends, Failing, First, ForSome, Is, IsExpected, Leads}
-pub use Rattle.papi_tools.specs.Openings.{Open, Openings, Stops, Verdict, and_then, bytes_of, bytes_until, file_bytes, found, opened, quiet}
-pub use Rattle.papi_tools.specs.Openings.{tape_under, tapes_under}
+pub use Rattle.papi_tools.specs.Openings.{Open, Openings, Stops, Verdict, and_then, bytes_of, bytes_until, found, opened, quiet, tape_under}
+pub use Rattle.papi_tools.specs.Openings.{tapes_under}
+unfoldable pub use Rattle.papi_tools.specs.Openings.{file_bytes}
 pub use Rattle.papi_tools.specs.OwnReplies.{AreOverUnit, NotesAreOwn, RepliesAreOwn, RunsAreOwn, ScriptsAreKept}
-pub use Rattle.papi_tools.specs.PresetListing.{avail_verdict, presets_said}
-pub use Rattle.papi_tools.specs.Profiling.{counted_in, is_counted, profil_verdict, profile_said, profiled_of, profiled_over, profiled_verdict}
-pub use Rattle.papi_tools.specs.RegionCounts.{GivenRegions, calls_of, counted_of, counted_said, events_named, named_by, readings_in, regions_said}
-pub use Rattle.papi_tools.specs.RegionCounts.{regions_verdict, said_with, values_in}
+pub use Rattle.papi_tools.specs.PresetListing.{presets_said}
+unfoldable pub use Rattle.papi_tools.specs.PresetListing.{avail_verdict}
+pub use Rattle.papi_tools.specs.Profiling.{counted_in, is_counted, profile_said, profiled_of, profiled_over}
+unfoldable pub use Rattle.papi_tools.specs.Profiling.{profil_verdict, profiled_verdict}
+pub use Rattle.papi_tools.specs.RegionCounts.{GivenRegions, calls_of, counted_of, counted_said, events_named, named_by, readings_in, said_with}
+pub use Rattle.papi_tools.specs.RegionCounts.{values_in}
+unfoldable pub use Rattle.papi_tools.specs.RegionCounts.{regions_said, regions_verdict}
 pub use Rattle.papi_tools.specs.RegionTotals.{TotalsAreSums, ended_values}
-pub use Rattle.papi_tools.specs.Run.{ran_of, ran_verdict, run_said, run_verdict, shown_notes}
-pub use Rattle.papi_tools.specs.Running.{CanBeGivenRun, GivenOf, GivenRun, IsGivenRun, given_of, given_with, note_counts, ran_notes, ran_replies}
-pub use Rattle.papi_tools.specs.Running.{told_in}
+pub use Rattle.papi_tools.specs.Run.{ran_of, run_said, shown_notes}
+unfoldable pub use Rattle.papi_tools.specs.Run.{ran_verdict, run_verdict}
+pub use Rattle.papi_tools.specs.Running.{CanBeGivenRun, GivenOf, GivenRun, IsGivenRun, given_of, given_with, note_counts, told_in}
+unfoldable pub use Rattle.papi_tools.specs.Running.{ran_notes, ran_replies}
 pub use Rattle.papi_tools.specs.Saying.{HasSinkCause, IsJudged, Says, SaysAll, TellsNotes, Wrote, WroteAll}
-pub use Rattle.papi_tools.specs.Soaking.{soak_given, soak_tape, soak_tapes, soak_verdict, soaked, stop_values, stops, summary_said, thread_total}
-pub use Rattle.papi_tools.specs.Soaking.{thread_totals, total_between, totals_between, values_at}
+pub use Rattle.papi_tools.specs.Soaking.{soak_given, soak_tape, soak_tapes, stop_values, stops, summary_said, thread_total, thread_totals}
+pub use Rattle.papi_tools.specs.Soaking.{total_between, totals_between, values_at}
+unfoldable pub use Rattle.papi_tools.specs.Soaking.{soak_verdict, soaked}
 pub use Rattle.papi_tools.specs.Status.{status_of}
-pub use Rattle.papi_tools.specs.Streams.{CanEachGive, IsUnread, SomeFailed, empty_stream, sources_in, stream_of, streams_of, streams_under}
+pub use Rattle.papi_tools.specs.Streams.{CanEachGive, IsUnread, SomeFailed, empty_stream, sources_in, stream_of, streams_under}
+unfoldable pub use Rattle.papi_tools.specs.Streams.{streams_of}
 pub use Rattle.papi_tools.specs.Texts.{text_said}
 pub use Rattle.papi_tools.specs.Verdict.{AnswersSaid, ComesTo, IsSettled, IsSettledAs, TellsBy, ToolTells, command_verdict, ended, notes_in}
 pub use Rattle.papi_tools.specs.Verdict.{refused_said, verdict, verdict_for}
@@ -76,21 +89,26 @@ pub use Rattle.region_report.specs.Kept.{IsRegions}
 pub use Rattle.region_report.specs.Lines.{is_reading}
 pub use Rattle.region_report.specs.Reports.{ends, report_text, total, with_end}
 pub use Rattle.region_report.specs.Scripts.{regions_of}
-pub use Rattle.region_report.specs.Spans.{Span, pairwise, reading_values, spans_from}
+pub use Rattle.region_report.specs.Spans.{Span, reading_values, spans_from}
+unfoldable pub use Rattle.region_report.specs.Spans.{pairwise}
 pub use Rattle.region_report.specs.declared.fault.RegionCause.{RegionCause}
 pub use Rattle.region_report.specs.declared.regions.RegionLine.{RegionLine}
 pub use Rattle.script_lines.specs.Arguments.{number_or}
-pub use Rattle.script_lines.specs.ByLine.{Refused, lines_from, onto}
+pub use Rattle.script_lines.specs.ByLine.{Refused, onto}
+unfoldable pub use Rattle.script_lines.specs.ByLine.{lines_from}
 pub use Rattle.script_lines.specs.Calls.{Written, call_of}
 pub use Rattle.script_lines.specs.Kept.{IsScript}
-pub use Rattle.script_lines.specs.Lines.{call_line, is_skipped, line_of_call, line_of_words, line_with}
-pub use Rattle.script_lines.specs.Scripts.{script_of, scripts}
+pub use Rattle.script_lines.specs.Lines.{is_skipped, line_of_call, line_of_words, line_with}
+unfoldable pub use Rattle.script_lines.specs.Lines.{call_line}
+pub use Rattle.script_lines.specs.Scripts.{scripts}
+unfoldable pub use Rattle.script_lines.specs.Scripts.{script_of}
 pub use Rattle.script_lines.specs.Words.{words_of}
 pub use Rattle.script_lines.specs.declared.fault.ScriptCause.{ScriptCause}
 pub use Rattle.script_lines.specs.declared.fault.ScriptCause.TheVariants.{BadThread, OverLimit}
 pub use Rattle.script_lines.specs.declared.script.ScriptLine.{ScriptLine}
 pub use Rattle.script_lines.specs.declared.script.TheConstants.{MOST_CALLS}
-pub use Rattle.script_runner.specs.Resolving.{IsGoodAsk, asked_of, line_of, lines_of, reply_lines_of, setting_of}
+pub use Rattle.script_runner.specs.Resolving.{IsGoodAsk, asked_of, line_of, setting_of}
+unfoldable pub use Rattle.script_runner.specs.Resolving.{lines_of, reply_lines_of}
 pub use Rattle.session_model.specs.CallTypes.{Asked, Call}
 pub use Rattle.session_model.specs.Conditions.{IsGood}
 pub use Rattle.session_model.specs.Fitness.{IsShape}
@@ -122,16 +140,18 @@ pub use Rattle.std.proofs.lemmas.List.FromFn.{get_or-map-range_with_len, length-
 pub use Rattle.std.proofs.lemmas.List.Sums.{sum_by-append}
 pub use Rattle.std.proofs.lemmas.Option.{get_or_from_slice_get, slice_get_within}
 pub use Rattle.std.proofs.lemmas.Simd.{map-map}
-pub use Rattle.std.specs.Int.{int_wrap, int_wrapping_add, w64}
+pub use Rattle.std.specs.Int.{int_wrapping_add, w64}
+unfoldable pub use Rattle.std.specs.Int.{int_wrap}
 pub use Rattle.std.specs.List.{Any, list_all, list_any, range_with_len}
 pub use Rattle.std.specs.Option.{option_map, option_map_or}
 pub use Rattle.std.specs.Prelude.{find, if◌then◌else◌, is_ok, nat_le, option_copied, ◌&&◌}
 pub use Rattle.std.specs.Str.Lines.{lines}
 pub use Rattle.std.specs.Str.Parse.{digits_value}
-pub use Rattle.stream_reader.specs.Occurs.{occurs_of}
-pub use Rattle.stream_reader.specs.Reader.{ReaderView, SourceView, comes, coming, faults_of, new_view, tape_of}
+unfoldable pub use Rattle.stream_reader.specs.Occurs.{occurs_of}
+pub use Rattle.stream_reader.specs.Reader.{ReaderView, SourceView, coming, faults_of, new_view, tape_of}
+unfoldable pub use Rattle.stream_reader.specs.Reader.{comes}
 pub use Rattle.thread_registry.proofs.Worlds.{some-streams}
-pub use Rattle.thread_registry.specs.Marks.{mark_at, marks_in}
+unfoldable pub use Rattle.thread_registry.specs.Marks.{mark_at, marks_in}
 pub use Rattle.thread_registry.specs.Plans.{IsPlanOf}
 pub use Rattle.thread_registry.specs.Runs.{AllKept, CanEachCome, IsPlannedAndTold, IsPlannedFrom, reply_lines}
 pub use Rattle.thread_registry.specs.declared.runner.plan.PlanLine.{PlanLine}
@@ -139,7 +159,8 @@ pub use Rattle.thread_registry.specs.declared.runner.result.ReplyLine.{ReplyLine
 pub use Rattle.thread_session.specs.Faults.{FaultsKept, FaultsRose, IsFaultBody, IsFaultReply, fault_count}
 pub use Rattle.thread_session.specs.Prospects.{CanCome}
 pub use Rattle.thread_session.specs.SessionView.{IsFresh}
-pub use Rattle.tool_output.specs.Choosing.{all_taken, chooser_text, given_set, refused_text, taken_unless, text_of, with_named, with_text, with_texts}
+pub use Rattle.tool_output.specs.Choosing.{all_taken, chooser_text, given_set, refused_text, taken_unless, text_of, with_named, with_text}
+unfoldable pub use Rattle.tool_output.specs.Choosing.{with_texts}
 pub use Rattle.tool_output.specs.declared.chooser.candidates.Candidates.{Candidates}
 pub use Rattle.tool_words.specs.Form.{form}
 pub use Rattle.tool_words.specs.declared.avail.AvailWords.{AvailWords}

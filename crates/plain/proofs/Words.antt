@@ -1,7 +1,9 @@
 -- The words that the proofs of this crate share, passed on from one place. Declares nothing.
 pub use Rattle.counter_alloc.specs.Assignments.{counters_from, counters_of}
-pub use Rattle.counter_alloc.specs.BlameOf.{deficient_sets, in_each_set, shortest_prefix}
-pub use Rattle.counter_alloc.specs.Listing.{all_distinct, assigns, choices, least, members}
+pub use Rattle.counter_alloc.specs.BlameOf.{in_each_set}
+unfoldable pub use Rattle.counter_alloc.specs.BlameOf.{deficient_sets, shortest_prefix}
+pub use Rattle.counter_alloc.specs.Listing.{all_distinct, least}
+unfoldable pub use Rattle.counter_alloc.specs.Listing.{assigns, choices, members}
 pub use Rattle.counter_alloc.specs.declared.matching.Blame.{Blame}
 pub use Rattle.multiplex.specs.Turns.{Turns, active, estimate, has_turn, weight_in_turn}
 pub use Rattle.papi_base.proofs.Steps.{any_here, any_later, drop_at, is_given, not_given}
@@ -20,8 +22,10 @@ pub use Rattle.plain.specs.declared.counting.Window.{Window}
 pub use Rattle.postfix_rules.proofs.Divided.{div-wrapped, zero-bits}
 pub use Rattle.postfix_rules.proofs.Spelled.{clear-first, constant-ok}
 pub use Rattle.postfix_rules.specs.Faults.{fault_from, height_after, token_cause}
-pub use Rattle.postfix_rules.specs.Trees.{Constant, Count, Node, Tree, spelling}
-pub use Rattle.postfix_rules.specs.Values.{applied, tree_value}
+pub use Rattle.postfix_rules.specs.Trees.{Constant, Count, Node, Tree}
+unfoldable pub use Rattle.postfix_rules.specs.Trees.{spelling}
+pub use Rattle.postfix_rules.specs.Values.{applied}
+unfoldable pub use Rattle.postfix_rules.specs.Values.{tree_value}
 pub use Rattle.postfix_rules.specs.declared.token.Operator.{Operator}
 pub use Rattle.postfix_rules.specs.declared.token.Token.{Token}
 pub use Rattle.session_model.specs.Account.{Kept, clock, last_after, time_after}
@@ -52,9 +56,12 @@ pub use Rattle.std.specs.Prelude.{IfSome, count_by, filter, find, if◌then◌el
 pub use Rattle.std.specs.Str.Parse.{AllDigits, digits_value}
 pub use Rattle.stream_reader.proofs.Hexadecimals.{hex-long, hex-short}
 pub use Rattle.stream_reader.proofs.Taking.{flag-small}
-pub use Rattle.stream_reader.specs.Judged.{judged, line_text, text_judged}
-pub use Rattle.stream_reader.specs.Lines.{Line, is_last_line, lines_of, tape_lines}
-pub use Rattle.stream_reader.specs.Occurs.{after, is_bad, joined, occurs_from, occurs_of}
+pub use Rattle.stream_reader.specs.Judged.{line_text, text_judged}
+unfoldable pub use Rattle.stream_reader.specs.Judged.{judged}
+pub use Rattle.stream_reader.specs.Lines.{Line, is_last_line}
+unfoldable pub use Rattle.stream_reader.specs.Lines.{lines_of, tape_lines}
+pub use Rattle.stream_reader.specs.Occurs.{after, is_bad, joined}
+unfoldable pub use Rattle.stream_reader.specs.Occurs.{occurs_from, occurs_of}
 pub use Rattle.stream_reader.specs.declared.limits.TheConstants.{LARGEST_STREAM, LONGEST_LINE}
 pub use Rattle.stream_reader.specs.declared.line.Judgement.{Judgement}
 pub use Rattle.stream_reader.specs.declared.line.LineStart.{LineStart}

@@ -1,6 +1,8 @@
 -- The words that the proofs of this crate share, passed on from one place. Declares nothing.
-pub use Rattle.csv.specs.Machine.{Read, after_end, ends_with, field_after, fields_after, in_field, is_end, next_record}
-pub use Rattle.csv.specs.Reading.{records_from, records_next, strip_bom}
+pub use Rattle.csv.specs.Machine.{Read, after_end, ends_with, field_after, fields_after, in_field, is_end}
+unfoldable pub use Rattle.csv.specs.Machine.{next_record}
+pub use Rattle.csv.specs.Reading.{records_next}
+unfoldable pub use Rattle.csv.specs.Reading.{records_from, strip_bom}
 pub use Rattle.csv.specs.Records.{fields_of}
 pub use Rattle.csv.specs.declared.parser.Action.{Action}
 pub use Rattle.csv.specs.declared.parser.State.{State}
@@ -13,19 +15,23 @@ pub use Rattle.postfix_rules.specs.Reading.{RefusedFormula, formula_of}
 pub use Rattle.postfix_rules.specs.Tokens.{formula_text, is_formula_byte}
 pub use Rattle.postfix_rules.specs.declared.derived.TheConstants.{MOST_NATIVES}
 pub use Rattle.preset_csv.specs.Defs.{AreNatives, DefView, FitsKind, IsDef, IsNativeText, ends_natives}
-pub use Rattle.preset_csv.specs.Entries.{InfixJudging, def_entry, formula_entry, has_rate, judged, judged_as, judged_by, kept_entry, kept_natives}
-pub use Rattle.preset_csv.specs.Entries.{typed_entry, uncomputed}
-pub use Rattle.preset_csv.specs.Kinds.{has_formula, kind_text, type_of}
-pub use Rattle.preset_csv.specs.Lines.{Derivation, Line, Word, cpu, derivation, derivation_of, event, gives, line_of, lines_of, natives_from}
-pub use Rattle.preset_csv.specs.Lines.{natives_in, other, preset}
-pub use Rattle.preset_csv.specs.Presets.{Judging, cuts_off, entry_of, entry_or, group, has_cpu, holds, is_read, line_cause, preset_fault, preset_read}
-pub use Rattle.preset_csv.specs.Presets.{presets, presets_in, presets_read, read_from, rows_if}
+pub use Rattle.preset_csv.specs.Entries.{InfixJudging, def_entry, formula_entry, judged, judged_as, kept_entry, kept_natives, typed_entry, uncomputed}
+unfoldable pub use Rattle.preset_csv.specs.Entries.{has_rate, judged_by}
+pub use Rattle.preset_csv.specs.Kinds.{has_formula, kind_text}
+unfoldable pub use Rattle.preset_csv.specs.Kinds.{type_of}
+pub use Rattle.preset_csv.specs.Lines.{Derivation, Line, Word, cpu, derivation, event, gives, lines_of, natives_from, other, preset}
+unfoldable pub use Rattle.preset_csv.specs.Lines.{derivation_of, line_of, natives_in}
+pub use Rattle.preset_csv.specs.Presets.{Judging, entry_or, holds, is_read, line_cause, preset_read, presets_read, rows_if}
+unfoldable pub use Rattle.preset_csv.specs.Presets.{cuts_off, entry_of, group, has_cpu, preset_fault, presets, presets_in, read_from}
 pub use Rattle.preset_csv.specs.Reading.{GivePresets}
-pub use Rattle.preset_csv.specs.Steps.{IsMore, Judges, after_commas, cause_more, entries_more, entries_with, group_at, group_more, is_closed, placed}
-pub use Rattle.preset_csv.specs.Steps.{read_cause}
-pub use Rattle.preset_csv.specs.Symbols.{PresetRow, preset_rows, row_of, symbol_at}
-pub use Rattle.preset_csv.specs.Tables.{IsEntry, IsMissing, IsTable, TableView, is_field, is_field_byte, symbols}
-pub use Rattle.preset_csv.specs.Written.{ReadsBack, def_fields, entry_rows, formula_fields, rows_of_entries, rows_of_entry, table_text}
+pub use Rattle.preset_csv.specs.Steps.{IsMore, Judges, after_commas, cause_more, entries_more, entries_with, group_at, group_more, placed, read_cause}
+unfoldable pub use Rattle.preset_csv.specs.Steps.{is_closed}
+pub use Rattle.preset_csv.specs.Symbols.{PresetRow}
+unfoldable pub use Rattle.preset_csv.specs.Symbols.{preset_rows, row_of, symbol_at}
+pub use Rattle.preset_csv.specs.Tables.{IsEntry, IsMissing, IsTable, TableView, is_field_byte}
+unfoldable pub use Rattle.preset_csv.specs.Tables.{is_field, symbols}
+pub use Rattle.preset_csv.specs.Written.{ReadsBack, def_fields, entry_rows, formula_fields, rows_of_entry}
+unfoldable pub use Rattle.preset_csv.specs.Written.{rows_of_entries, table_text}
 pub use Rattle.preset_csv.specs.declared.entry.Entry.{Entry}
 pub use Rattle.preset_csv.specs.declared.fault.PresetCause.{PresetCause}
 pub use Rattle.preset_csv.specs.declared.group.Group.{Group}
@@ -53,7 +59,10 @@ pub use Rattle.table_rows.proofs.PlainFields.{rows-plain}
 pub use Rattle.table_rows.proofs.RowsBack.{rows-back}
 pub use Rattle.table_rows.proofs.TablesRead.{takes-as}
 pub use Rattle.table_rows.proofs.Texts.{all-append, all-map, or-false, trimmed-all, trimmed-once, trimmed-plain}
-pub use Rattle.table_rows.specs.Rows.{BeginsPlain, IsInner, IsPlainField, IsPlainRow, IsReadRow, rows_of, rows_text, table_config}
-pub use Rattle.table_rows.specs.Tables.{NoTwo, RefusesRow, TakesRow, first_fault}
-pub use Rattle.table_rows.specs.Texts.{Text, is_blank, is_empty, is_printable, text_at, trimmed}
+pub use Rattle.table_rows.specs.Rows.{BeginsPlain, IsInner, IsPlainField, IsPlainRow, IsReadRow, table_config}
+unfoldable pub use Rattle.table_rows.specs.Rows.{rows_of, rows_text}
+pub use Rattle.table_rows.specs.Tables.{NoTwo, RefusesRow, TakesRow}
+unfoldable pub use Rattle.table_rows.specs.Tables.{first_fault}
+pub use Rattle.table_rows.specs.Texts.{Text, is_blank, is_empty, is_printable, trimmed}
+unfoldable pub use Rattle.table_rows.specs.Texts.{text_at}
 pub use Rattle.table_rows.specs.declared.fault.RowRefusal.{RowRefusal}

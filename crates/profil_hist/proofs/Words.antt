@@ -4,10 +4,13 @@ pub use Rattle.papi_base.proofs.Growing.{number_more}
 pub use Rattle.papi_base.proofs.Steps.{all_at, list_any-map, none_any, passed_over}
 pub use Rattle.profil_hist.specs.Counts.{IsThere, RowText, bucket_in, counts_text, met, no_counts, no_hits, rows_text, with_hit, with_note}
 pub use Rattle.profil_hist.specs.Histograms.{HistText, IsHist, IsHistogram, bucket_at, bucket_count, has_bucket, hist_text, range_count}
-pub use Rattle.profil_hist.specs.Lines.{IsLine, Line, address_in, bad, fits, line_of, range, range_line, range_of, skipped}
-pub use Rattle.profil_hist.specs.Maps.{cause_in, range_cause, ranges_in, row_cause}
+pub use Rattle.profil_hist.specs.Lines.{IsLine, Line, address_in, bad, fits, range, range_line, range_of, skipped}
+unfoldable pub use Rattle.profil_hist.specs.Lines.{line_of}
+pub use Rattle.profil_hist.specs.Maps.{cause_in, range_cause, row_cause}
+unfoldable pub use Rattle.profil_hist.specs.Maps.{ranges_in}
 pub use Rattle.profil_hist.specs.Places.{ArePlacesOf, IsOrder, IsPlaceOf, IsPlaced}
-pub use Rattle.profil_hist.specs.Profiles.{bucket_line, count_or_none, hist_lines, hits_or_none, last_lines, lines_at, profile_text, range_lines}
+pub use Rattle.profil_hist.specs.Profiles.{bucket_line, count_or_none, hist_lines, hits_or_none, last_lines, lines_at, range_lines}
+unfoldable pub use Rattle.profil_hist.specs.Profiles.{profile_text}
 pub use Rattle.profil_hist.specs.Ranges.{IsMap, IsRange, RangeText, buckets_in_all, end_of, in_bucket, in_range, overlaps}
 pub use Rattle.profil_hist.specs.Steps.{GiveRanges, with_line}
 pub use Rattle.profil_hist.specs.Views.{range_text}

@@ -12,8 +12,10 @@ pub use Rattle.postfix_rules.specs.Sameness.{among, joined_by}
 pub use Rattle.script_lines.specs.Calls.{Written}
 pub use Rattle.script_lines.specs.declared.script.ScriptLine.{ScriptLine}
 pub use Rattle.script_runner.specs.Pieces.{IsPartWritten, IsWrittenSoFar}
-pub use Rattle.script_runner.specs.Replies.{notes_text, replies_text, reply_line_text}
-pub use Rattle.script_runner.specs.Resolving.{AreFirstOf, IsGoodAsk, asked_of, line_of, lines_of, mentioned_in, reply_lines_of, setting_of}
+pub use Rattle.script_runner.specs.Replies.{reply_line_text}
+unfoldable pub use Rattle.script_runner.specs.Replies.{notes_text, replies_text}
+pub use Rattle.script_runner.specs.Resolving.{AreFirstOf, IsGoodAsk, asked_of, line_of, mentioned_in, setting_of}
+unfoldable pub use Rattle.script_runner.specs.Resolving.{lines_of, reply_lines_of}
 pub use Rattle.session_model.specs.CallTypes.{Asked, Call}
 pub use Rattle.session_model.specs.World.{LineTold, Setting, mentioned_after, mentions_of, mentions_of_call}
 pub use Rattle.session_model.specs.declared.line.Line.{Line}

@@ -2,13 +2,16 @@
 pub use Rattle.papi_base.proofs.Growing.{both, item_more, number_more}
 pub use Rattle.papi_base.proofs.Steps.{drop_at, drop_item}
 pub use Rattle.papi_base.specs.Outside.{Gives}
-pub use Rattle.soak_input.specs.Generator.{draw_at, next}
-pub use Rattle.soak_input.specs.Occurrences.{fifth, occurrence_after, occurrences_after}
+pub use Rattle.soak_input.specs.Generator.{draw_at}
+unfoldable pub use Rattle.soak_input.specs.Generator.{next}
+pub use Rattle.soak_input.specs.Occurrences.{fifth, occurrence_after}
+unfoldable pub use Rattle.soak_input.specs.Occurrences.{occurrences_after}
 pub use Rattle.soak_input.specs.Script.{by_thread, call_lines, round}
 pub use Rattle.soak_input.specs.Source.{left_text, well_ended}
 pub use Rattle.soak_input.specs.SourceView.{text_left}
 pub use Rattle.soak_input.specs.Streams.{Text, line_text, lines_text, six_digits, two_digits}
-pub use Rattle.soak_input.specs.Summary.{add_values, sum_of, summary_text, thread_line, thread_lines, values_text}
+pub use Rattle.soak_input.specs.Summary.{add_values, sum_of, thread_line, values_text}
+unfoldable pub use Rattle.soak_input.specs.Summary.{summary_text, thread_lines}
 pub use Rattle.soak_input.specs.declared.occurrence.Occurrence.{Occurrence}
 pub use Rattle.soak_input.specs.declared.summary.ThreadTotal.{ThreadTotal}
 pub use Rattle.std.proofs.Common.{List, Ok, [], add-zero, ap, append_assoc, ap₂, arith, drop, false, fold, get_or, length, length-append, map, rules}

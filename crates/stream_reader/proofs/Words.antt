@@ -1,6 +1,7 @@
 -- The words that the proofs of this crate share, passed on from one place. Declares nothing.
 pub use Rattle.memchr.specs.Find.{IsFirstByte, is_byte}
-pub use Rattle.papi_base.specs.Numerals.{decimal_in, flag_bit, hex_in, is_decimal, is_digit, is_empty, is_hex_digit, is_numeral}
+pub use Rattle.papi_base.specs.Numerals.{flag_bit, is_digit, is_empty, is_hex_digit}
+unfoldable pub use Rattle.papi_base.specs.Numerals.{decimal_in, hex_in, is_decimal, is_numeral}
 pub use Rattle.papi_base.specs.Outside.{Gives, Tape, answer_at, tape_after}
 pub use Rattle.papi_base.specs.Streams.{Coming, Fault}
 pub use Rattle.papi_base.specs.declared.limits.TheConstants.{LAST_STAMP}
@@ -40,19 +41,25 @@ pub use Rattle.std.specs.Str.Parse.{digits_value, digits_value_after}
 pub use Rattle.stream_reader.specs.ByteTables.{decimal_or_256, digit_or_256, mode_or_256}
 pub use Rattle.stream_reader.specs.CommonLines.{BeginsSkipped, BeginsWith, BeginsWithComponent, EndsAt, HasHeadSpaces, HoldsLine, IsAmount}
 pub use Rattle.stream_reader.specs.CommonLines.{IsAmountOf, IsDigits, IsFront, IsHead, IsInner, IsStamp, is_inner, is_plain, occ_with}
-pub use Rattle.stream_reader.specs.Digits.{HasValue, HaveValues, IsHexadecimal, is_value, number_after, piece}
+pub use Rattle.stream_reader.specs.Digits.{HasValue, IsHexadecimal, is_value, piece}
+unfoldable pub use Rattle.stream_reader.specs.Digits.{HaveValues, number_after}
 pub use Rattle.stream_reader.specs.Feeding.{Grows, IsFirstLine, are_ended, are_whole, ends_well, followed, is_dry, is_end, is_open, left_start}
-pub use Rattle.stream_reader.specs.Feeding.{place_after, text_says, unread}
-pub use Rattle.stream_reader.specs.Fields.{after_field, digits_on, ends_with, event_occurrence_on, first_field, has_form, hex_on, is_one_byte}
-pub use Rattle.stream_reader.specs.Fields.{number_on, occurrence_on, stamp_after, tail_on}
+pub use Rattle.stream_reader.specs.Feeding.{text_says, unread}
+unfoldable pub use Rattle.stream_reader.specs.Feeding.{place_after}
+pub use Rattle.stream_reader.specs.Fields.{digits_on, ends_with, has_form, hex_on, is_one_byte, stamp_after}
+unfoldable pub use Rattle.stream_reader.specs.Fields.{after_field, event_occurrence_on, first_field, number_on, occurrence_on, tail_on}
 pub use Rattle.stream_reader.specs.Inside.{FindsNewline, HasEnded, IsKept, IsReader, Passes, Refills, TakesLine, Turns, answer_of, left_of, line_at}
 pub use Rattle.stream_reader.specs.Inside.{line_taken}
-pub use Rattle.stream_reader.specs.Judged.{field, fields_judged, fields_of, given, has_fields, is_above, is_next_stamp, is_skipped, judged, line_text}
-pub use Rattle.stream_reader.specs.Judged.{mode_of, occ_of, occurrence_judged, stamp_of, text_judged, without_return}
-pub use Rattle.stream_reader.specs.Lines.{IsOneLine, Line, is_last_line, lines_of, tape_lines}
-pub use Rattle.stream_reader.specs.Occurs.{IsStart, after, end_mark, is_bad, joined, least_stamp, line_passed, occurs_from, occurs_of, occurs_on}
-pub use Rattle.stream_reader.specs.Reader.{Closes, Gave, GaveNothing, GoesOn, NextGives, ReaderView, SourceView, Takes, answers_from, at_mark}
-pub use Rattle.stream_reader.specs.Reader.{before_rest, comes, coming, faults_of, follows, has_answer, is_last, new_view, nothing, tape_of}
+pub use Rattle.stream_reader.specs.Judged.{field, fields_of, given, has_fields, is_above, is_next_stamp, is_skipped, line_text, occurrence_judged}
+pub use Rattle.stream_reader.specs.Judged.{stamp_of}
+unfoldable pub use Rattle.stream_reader.specs.Judged.{fields_judged, judged, mode_of, occ_of, text_judged, without_return}
+pub use Rattle.stream_reader.specs.Lines.{IsOneLine, Line, is_last_line}
+unfoldable pub use Rattle.stream_reader.specs.Lines.{lines_of, tape_lines}
+pub use Rattle.stream_reader.specs.Occurs.{IsStart, after, end_mark, is_bad, joined, least_stamp, line_passed, occurs_on}
+unfoldable pub use Rattle.stream_reader.specs.Occurs.{occurs_from, occurs_of}
+pub use Rattle.stream_reader.specs.Reader.{Closes, Gave, GaveNothing, GoesOn, NextGives, ReaderView, SourceView, Takes, at_mark, before_rest}
+pub use Rattle.stream_reader.specs.Reader.{faults_of, follows, is_last, new_view, nothing, tape_of}
+unfoldable pub use Rattle.stream_reader.specs.Reader.{answers_from, comes, coming, has_answer}
 pub use Rattle.stream_reader.specs.declared.byte_tables.TheConstants.{DECIMALS, DIGITS, MODES}
 pub use Rattle.stream_reader.specs.declared.common_line.CommonLine.{CommonLine}
 pub use Rattle.stream_reader.specs.declared.common_line.Front.{Front}

@@ -1,9 +1,12 @@
 -- The words that the proofs of this crate share, passed on from one place. Declares nothing.
 pub use Rattle.csv.proofs.ReadFacts.{rows-end, rows-more}
-pub use Rattle.csv.specs.Machine.{Read, after_end, ends_at_end, ends_with, field_after, fields_after, in_field, is_byte, is_end, next_record}
-pub use Rattle.csv.specs.Machine.{start_field, start_record, step}
-pub use Rattle.csv.specs.Reading.{Reached, ReadRecord, is_bom, records_from, records_next, strip_bom, took_first}
-pub use Rattle.csv.specs.Records.{field_at, fields_of}
+pub use Rattle.csv.specs.Machine.{Read, after_end, ends_at_end, ends_with, field_after, fields_after, in_field, is_byte, is_end, start_field}
+pub use Rattle.csv.specs.Machine.{start_record, step}
+unfoldable pub use Rattle.csv.specs.Machine.{next_record}
+pub use Rattle.csv.specs.Reading.{ReadRecord, is_bom, records_next, took_first}
+unfoldable pub use Rattle.csv.specs.Reading.{Reached, records_from, strip_bom}
+pub use Rattle.csv.specs.Records.{fields_of}
+unfoldable pub use Rattle.csv.specs.Records.{field_at}
 pub use Rattle.csv.specs.declared.parser.Action.{Action}
 pub use Rattle.csv.specs.declared.parser.Config.{Config}
 pub use Rattle.csv.specs.declared.parser.State.{State}
@@ -29,8 +32,10 @@ pub use Rattle.std.specs.Result.{result_ok}
 pub use Rattle.std.specs.Str.{IsAscii}
 pub use Rattle.std.specs.Str.Parse.{AllDigits, IsNumeral, ParsesUnsigned, digits_value, without_leading_plus}
 pub use Rattle.table_rows.specs.Reader.{IsAtRow, IsBetweenRows, ReadsRow, bytes_left, is_between, rows_from, rows_left, source}
-pub use Rattle.table_rows.specs.Rows.{IsInner, IsPlainField, IsPlainRow, IsReadRow, rows_of, rows_text, table_config}
-pub use Rattle.table_rows.specs.Tables.{NoTwo, RefusesTable, TakesRow, fault_at, first_fault}
-pub use Rattle.table_rows.specs.Texts.{Text, decimal_in, hex_in, is_blank, is_decimal, is_digit, is_empty, is_hex_digit, is_name, is_name_byte}
-pub use Rattle.table_rows.specs.Texts.{is_numeral, is_printable, is_printable_byte, text_at, trimmed, without_front}
+pub use Rattle.table_rows.specs.Rows.{IsInner, IsPlainField, IsPlainRow, IsReadRow, table_config}
+unfoldable pub use Rattle.table_rows.specs.Rows.{rows_of, rows_text}
+pub use Rattle.table_rows.specs.Tables.{NoTwo, RefusesTable, TakesRow, fault_at}
+unfoldable pub use Rattle.table_rows.specs.Tables.{first_fault}
+pub use Rattle.table_rows.specs.Texts.{Text, is_blank, is_digit, is_empty, is_hex_digit, is_name_byte, is_printable, is_printable_byte}
+unfoldable pub use Rattle.table_rows.specs.Texts.{decimal_in, hex_in, is_decimal, is_name, is_numeral, text_at, trimmed, without_front}
 pub use Rattle.table_rows.specs.declared.fault.RowRefusal.{RowRefusal}

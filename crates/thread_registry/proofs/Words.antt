@@ -54,7 +54,7 @@ pub use Rattle.thread_registry.specs.Each.{Each}
 pub use Rattle.thread_registry.specs.JobView.{CanWork, CutShort, Finished, FinishedTo, JobView, Replied, Worked, WorkedOrIdle, WorkedTo, seen_of}
 pub use Rattle.thread_registry.specs.Jobs.{Left, before, befores_from, befores_of}
 pub use Rattle.thread_registry.specs.Load.{load_of}
-pub use Rattle.thread_registry.specs.Marks.{mark_at, marks_in}
+unfoldable pub use Rattle.thread_registry.specs.Marks.{mark_at, marks_in}
 pub use Rattle.thread_registry.specs.Merges.{ahead_then, flags_by, lines_by, reply_by, rest_by}
 pub use Rattle.thread_registry.specs.OpenedJobs.{IsOpenedForCalls, seen, session_of}
 pub use Rattle.thread_registry.specs.Plans.{AreGood, AreThreads, Ask, IsGoodFor, Planned, ask_of, asks_from, calls_in, event_by, planned_at}

@@ -33,8 +33,9 @@ pub use Rattle.std.specs.Option.{option_map, option_map_or}
 pub use Rattle.std.specs.Prelude.{Err, IfOk, Ok, OnErr, OnOk, Result, is_some, unwrap_or, ⊤}
 pub use Rattle.stream_reader.proofs.Giving.{Closed, GaveAll, gave_mark, gave_more, gave_none}
 pub use Rattle.stream_reader.specs.Feeding.{Grows, fed_with, text_says}
-pub use Rattle.stream_reader.specs.Reader.{Closes, GaveOne, GoesOn, NextGives, ReaderView, SourceView, Takes, at_mark, before_rest, comes, coming}
-pub use Rattle.stream_reader.specs.Reader.{faults_of, follows, nothing, tape_of}
+pub use Rattle.stream_reader.specs.Reader.{Closes, GaveOne, GoesOn, NextGives, ReaderView, SourceView, Takes, at_mark, before_rest, coming, faults_of}
+pub use Rattle.stream_reader.specs.Reader.{follows, nothing, tape_of}
+unfoldable pub use Rattle.stream_reader.specs.Reader.{comes}
 pub use Rattle.stream_reader.specs.declared.feeding.Fed.{Fed}
 pub use Rattle.stream_reader.specs.declared.feeding.Fed.TheVariants.{Whole}
 pub use Rattle.stream_reader.specs.declared.next.Next.{Next}

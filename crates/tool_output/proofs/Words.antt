@@ -30,9 +30,10 @@ pub use Rattle.event_tables.specs.declared.component.EventRow.{EventRow}
 pub use Rattle.itoa.proofs.Decimal.{minus_first}
 pub use Rattle.name_encoder.proofs.Encoded.{native-allowed}
 pub use Rattle.name_encoder.specs.Canonical.{canonical}
-pub use Rattle.name_encoder.specs.Flags.{bits_of}
+unfoldable pub use Rattle.name_encoder.specs.Flags.{bits_of}
 pub use Rattle.name_encoder.specs.Judged.{nothing}
-pub use Rattle.name_encoder.specs.Names.{Found, common_of, fixed_of, native_of, values_of}
+pub use Rattle.name_encoder.specs.Names.{Found, native_of}
+unfoldable pub use Rattle.name_encoder.specs.Names.{common_of, fixed_of, values_of}
 pub use Rattle.papi_base.proofs.Growing.{both, range_more}
 pub use Rattle.papi_base.proofs.Steps.{all_at, drop_at, take_at}
 pub use Rattle.papi_base.specs.declared.code.Code.{Code}
@@ -75,14 +76,19 @@ pub use Rattle.std.specs.Prelude.{All, IsTrue, OnErr, OnOk, Result, decimal, if�
 pub use Rattle.std.specs.Prelude.{◌||◌, ◌↔◌}
 pub use Rattle.std.specs.Str.{IsAscii}
 pub use Rattle.std.specs.Str.Iter.{HasSubslice}
-pub use Rattle.tool_output.specs.Candidates.{alone, candidates, found, natives_at, natives_in_row, no_modifiers, preset_in, with_umask}
-pub use Rattle.tool_output.specs.Choosing.{GivenSet, RefusedText, names_text, takes, with_named, with_text, with_texts}
+pub use Rattle.tool_output.specs.Candidates.{alone, found, natives_at, natives_in_row, no_modifiers, preset_in, with_umask}
+unfoldable pub use Rattle.tool_output.specs.Candidates.{candidates}
+pub use Rattle.tool_output.specs.Choosing.{GivenSet, RefusedText, names_text, takes, with_named, with_text}
+unfoldable pub use Rattle.tool_output.specs.Choosing.{with_texts}
 pub use Rattle.tool_output.specs.Lines.{Text, spaces}
-pub use Rattle.tool_output.specs.NativeLists.{component_lines, event_lines, full_name, is_chosen, listed_count, listed_events, named_lines, stands_in}
+pub use Rattle.tool_output.specs.NativeLists.{component_lines, event_lines, full_name, is_chosen, listed_count, listed_events, named_lines}
 pub use Rattle.tool_output.specs.NativeLists.{umask_line}
+unfoldable pub use Rattle.tool_output.specs.NativeLists.{stands_in}
 pub use Rattle.tool_output.specs.Open.{IsOpen, IsOver}
 pub use Rattle.tool_output.specs.PresetEvents.{formula_line, native_line, native_lines, type_line}
-pub use Rattle.tool_output.specs.PresetLists.{counts_line, heading, is_listed, preset_list, row_line, rows}
-pub use Rattle.tool_output.specs.Replies.{assigned_text, clash_texts, counter_text, line_text, members_below, reply_text, spaced}
+pub use Rattle.tool_output.specs.PresetLists.{counts_line, heading, is_listed, row_line, rows}
+unfoldable pub use Rattle.tool_output.specs.PresetLists.{preset_list}
+pub use Rattle.tool_output.specs.Replies.{assigned_text, counter_text, members_below, reply_text, spaced}
+unfoldable pub use Rattle.tool_output.specs.Replies.{clash_texts, line_text}
 pub use Rattle.tool_output.specs.declared.replies.values.TheConstants.{LONGEST_LIST, LONGEST_VALUE}
 pub use native.Mathlib.Numerals.{unary_clauses}

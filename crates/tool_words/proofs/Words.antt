@@ -1,5 +1,5 @@
 -- The words that the proofs of this crate share, passed on from one place. Declares nothing.
-pub use Rattle.clap.proofs.OnLiterals.{clap_on_literals}
+unfoldable pub use Rattle.clap.proofs.OnLiterals.{clap_on_literals}
 pub use Rattle.clap.proofs.WalkLemmas.{both, first_value-rows, one_text-rows, raw_values-rows}
 pub use Rattle.clap.specs.Built.{AddsArg, AddsInTurn}
 pub use Rattle.clap.specs.Kinds.{IsAmong, Kinds}
@@ -23,22 +23,24 @@ pub use Rattle.std.specs.Char.{digit_value}
 pub use Rattle.std.specs.List.{list_all}
 pub use Rattle.std.specs.Prelude.{option_and_then, string_bytes}
 pub use Rattle.std.specs.Str.Parse.{AllDigits, ExplainsUnsignedError, HasUnsignedDigitsIfOk, ParsesUnsigned, digits_value, without_leading_plus}
-pub use Rattle.tool_words.specs.Arguments.{rule}
-pub use Rattle.tool_words.specs.AvailForm.{avail_form}
-pub use Rattle.tool_words.specs.ChooserForm.{chooser_form}
-pub use Rattle.tool_words.specs.DecodeForm.{decode_form}
-pub use Rattle.tool_words.specs.EncodeForm.{encode_form}
-pub use Rattle.tool_words.specs.EventList.{is_event, parts_of}
+unfoldable pub use Rattle.tool_words.specs.Arguments.{rule}
+unfoldable pub use Rattle.tool_words.specs.AvailForm.{avail_form}
+unfoldable pub use Rattle.tool_words.specs.ChooserForm.{chooser_form}
+unfoldable pub use Rattle.tool_words.specs.DecodeForm.{decode_form}
+unfoldable pub use Rattle.tool_words.specs.EncodeForm.{encode_form}
+pub use Rattle.tool_words.specs.EventList.{is_event}
+unfoldable pub use Rattle.tool_words.specs.EventList.{parts_of}
 pub use Rattle.tool_words.specs.Form.{form}
-pub use Rattle.tool_words.specs.NativeAvailForm.{native_avail_form}
+unfoldable pub use Rattle.tool_words.specs.NativeAvailForm.{native_avail_form}
 pub use Rattle.tool_words.specs.Numbers.{unsigned_of}
-pub use Rattle.tool_words.specs.Presets.{is_cpu}
-pub use Rattle.tool_words.specs.ProfilForm.{profil_form}
-pub use Rattle.tool_words.specs.RegionsForm.{regions_form}
-pub use Rattle.tool_words.specs.RunForm.{run_form}
-pub use Rattle.tool_words.specs.ScriptForm.{script_words_in}
-pub use Rattle.tool_words.specs.SoakForm.{soak_form}
-pub use Rattle.tool_words.specs.Words.{Answers, AreMatches, HasSomeKind, ToolForm, app_by, app_with, fault_by, read_by, unless_refused}
+unfoldable pub use Rattle.tool_words.specs.Presets.{is_cpu}
+unfoldable pub use Rattle.tool_words.specs.ProfilForm.{profil_form}
+unfoldable pub use Rattle.tool_words.specs.RegionsForm.{regions_form}
+unfoldable pub use Rattle.tool_words.specs.RunForm.{run_form}
+unfoldable pub use Rattle.tool_words.specs.ScriptForm.{script_words_in}
+unfoldable pub use Rattle.tool_words.specs.SoakForm.{soak_form}
+pub use Rattle.tool_words.specs.Words.{Answers, AreMatches, HasSomeKind, ToolForm, app_by, app_with, fault_by, unless_refused}
+unfoldable pub use Rattle.tool_words.specs.Words.{read_by}
 pub use Rattle.tool_words.specs.declared.argument.Argument.{Argument}
 pub use Rattle.tool_words.specs.declared.chooser.EventKind.{EventKind}
 pub use Rattle.tool_words.specs.declared.chooser.EventKind.TheVariants.{Native, Preset}

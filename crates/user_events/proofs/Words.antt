@@ -4,8 +4,8 @@ pub use Rattle.papi_base.proofs.Steps.{is_given, not_given}
 pub use Rattle.postfix_rules.specs.Faults.{FormulaView, IsFormula, fault_from}
 pub use Rattle.postfix_rules.specs.InfixFaults.{IsInfixFault}
 pub use Rattle.postfix_rules.specs.InfixLaws.{FirstInfixFaults, FromOneInfix, SameTree}
-pub use Rattle.postfix_rules.specs.InfixReading.{OrderView, ended_tokens, infix_end, infix_ended, infix_of, moved_by, order_begun, order_cause}
-pub use Rattle.postfix_rules.specs.InfixReading.{refused_at}
+pub use Rattle.postfix_rules.specs.InfixReading.{OrderView, ended_tokens, moved_by, order_begun, order_cause, refused_at}
+unfoldable pub use Rattle.postfix_rules.specs.InfixReading.{infix_end, infix_ended, infix_of}
 pub use Rattle.postfix_rules.specs.InfixTokens.{InfixPart, infix_parts}
 pub use Rattle.postfix_rules.specs.Reading.{RefusedFormula, formula_of}
 pub use Rattle.postfix_rules.specs.declared.fault.FormulaCause.{FormulaCause}
@@ -22,13 +22,16 @@ pub use Rattle.preset_csv.proofs.SymbolRows.{all-test, same-text, turned}
 pub use Rattle.preset_csv.proofs.TableKept.{length-presets, lines-plain}
 pub use Rattle.preset_csv.proofs.WrittenParts.{rows-append}
 pub use Rattle.preset_csv.specs.Defs.{DefView, FitsKind, IsDef}
-pub use Rattle.preset_csv.specs.Entries.{def_entry, formula_entry, judged, judged_as, judged_by, kept_entry, kept_natives, typed_entry, uncomputed}
-pub use Rattle.preset_csv.specs.Lines.{Derivation, Line, cpu, derivation_of, event, gives, other, preset}
-pub use Rattle.preset_csv.specs.Presets.{cause_if, entry_of, entry_or, has_cpu, holds, is_read, preset_fault, preset_read, presets, presets_in}
-pub use Rattle.preset_csv.specs.Presets.{presets_read, read_from, rows_if}
+pub use Rattle.preset_csv.specs.Entries.{def_entry, formula_entry, judged, judged_as, kept_entry, kept_natives, typed_entry, uncomputed}
+unfoldable pub use Rattle.preset_csv.specs.Entries.{judged_by}
+pub use Rattle.preset_csv.specs.Lines.{Derivation, Line, cpu, event, gives, other, preset}
+unfoldable pub use Rattle.preset_csv.specs.Lines.{derivation_of}
+pub use Rattle.preset_csv.specs.Presets.{cause_if, entry_or, has_cpu, holds, is_read, preset_read, presets_read, rows_if}
+unfoldable pub use Rattle.preset_csv.specs.Presets.{entry_of, preset_fault, presets, presets_in, read_from}
 pub use Rattle.preset_csv.specs.Steps.{Judges, group_at}
 pub use Rattle.preset_csv.specs.Tables.{IsEntry, IsTable, TableView, is_field, symbols}
-pub use Rattle.preset_csv.specs.Written.{def_fields, rows_of_entries, table_text}
+pub use Rattle.preset_csv.specs.Written.{def_fields}
+unfoldable pub use Rattle.preset_csv.specs.Written.{rows_of_entries, table_text}
 pub use Rattle.preset_csv.specs.declared.entry.Entry.{Entry}
 pub use Rattle.preset_csv.specs.declared.fault.PresetCause.{PresetCause}
 pub use Rattle.preset_csv.specs.declared.fault.PresetCause.TheVariants.{BadFormula}
@@ -54,20 +57,26 @@ pub use Rattle.std.specs.Str.{bytes_eq, str_eq_ignore_ascii_case}
 pub use Rattle.table_rows.proofs.RowsBack.{rows-back}
 pub use Rattle.table_rows.proofs.TablesRead.{takes-as}
 pub use Rattle.table_rows.proofs.Texts.{all-append, all-map, no_two-more}
-pub use Rattle.table_rows.specs.Rows.{IsPlainRow, IsReadRow, rows_of, rows_text}
-pub use Rattle.table_rows.specs.Tables.{RefusesRow, TakesRow, first_fault}
-pub use Rattle.table_rows.specs.Texts.{Text, is_empty, is_printable, is_printable_byte, text_at}
+pub use Rattle.table_rows.specs.Rows.{IsPlainRow, IsReadRow, rows_of}
+unfoldable pub use Rattle.table_rows.specs.Rows.{rows_text}
+pub use Rattle.table_rows.specs.Tables.{RefusesRow, TakesRow}
+unfoldable pub use Rattle.table_rows.specs.Tables.{first_fault}
+pub use Rattle.table_rows.specs.Texts.{Text, is_empty, is_printable, is_printable_byte}
+unfoldable pub use Rattle.table_rows.specs.Texts.{text_at}
 pub use Rattle.table_rows.specs.declared.fault.RowRefusal.{RowRefusal}
 pub use Rattle.user_events.specs.Alike.{IsOfPresets, IsOrdinary, ReadsAsPresets}
 pub use Rattle.user_events.specs.Entries.{event_judged, has_rate, infix_entry}
 pub use Rattle.user_events.specs.Events.{Distinct, EventView, ExtendedView, IsEvent, IsExtended, IsPresent, event_view, names_of}
 pub use Rattle.user_events.specs.Grammar.{EntriesAreByGrammar}
-pub use Rattle.user_events.specs.Lines.{line_of, lines_of}
-pub use Rattle.user_events.specs.Names.{is_event_byte, is_event_name}
+pub use Rattle.user_events.specs.Lines.{lines_of}
+unfoldable pub use Rattle.user_events.specs.Lines.{line_of}
+pub use Rattle.user_events.specs.Names.{is_event_byte}
+unfoldable pub use Rattle.user_events.specs.Names.{is_event_name}
 pub use Rattle.user_events.specs.Reading.{GivePresetsAndEvents, IsKept, taking}
-pub use Rattle.user_events.specs.Rows.{among, event_of, event_read, events_of, events_read, extended_fault, extended_in, is_too_many, limited}
-pub use Rattle.user_events.specs.Rows.{line_cause, name_added, named_entry, names_in}
+pub use Rattle.user_events.specs.Rows.{among, event_of, event_read, events_of, events_read, is_too_many, limited, line_cause, name_added, named_entry}
+unfoldable pub use Rattle.user_events.specs.Rows.{extended_fault, extended_in, names_in}
 pub use Rattle.user_events.specs.Steps.{IsMore, IsOverLimit, Taking, cause_more, event_cause, events_more, events_with, put_event, put_judged}
-pub use Rattle.user_events.specs.Written.{ReadsBack, event_rows, extended_text, named_rows}
+pub use Rattle.user_events.specs.Written.{ReadsBack, named_rows}
+unfoldable pub use Rattle.user_events.specs.Written.{event_rows, extended_text}
 pub use Rattle.user_events.specs.declared.event.TheConstants.{MOST_USER_EVENTS}
 pub use Rattle.user_events.specs.declared.event.UserEvent.{UserEvent}
