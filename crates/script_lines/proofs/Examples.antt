@@ -1,9 +1,17 @@
 -- What written out scripts come to.
-use Rattle.script_lines.proofs.Words.{◌≡◌, ◌∷◌, [], List, ℕ, Result, codes, map, refl, Ok, Err, Text, decimal_in, hex_in, is_decimal, is_numeral}
-use Rattle.script_lines.proofs.Words.{ScriptCause, ScriptLine, call_rows, call_line, line_with, Refused, lines_from, script_of, words_of}
+use Rattle.std.proofs.Common.{◌≡◌, ◌∷◌, [], List, ℕ, Result, codes, map, refl}
+use Rattle.std.specs.Prelude.{Ok, Err}
+use Rattle.table_rows.specs.Texts.{Text, decimal_in, hex_in, is_decimal, is_numeral}
 use Rattle.call_type.specs.declared.call.Asked.TheVariants as asked
 use Rattle.call_type.specs.declared.call.Call.TheVariants as call
+use Rattle.script_lines.specs.declared.fault.ScriptCause.{ScriptCause}
 use Rattle.script_lines.specs.declared.fault.ScriptCause.TheVariants as cause
+use Rattle.script_lines.specs.declared.script.ScriptLine.{ScriptLine}
+use Rattle.script_lines.specs.Calls.{call_rows}
+use Rattle.script_lines.specs.Lines.{call_line, line_with}
+use Rattle.script_lines.specs.ByLine.{Refused, lines_from}
+use Rattle.script_lines.specs.Scripts.{script_of}
+use Rattle.script_lines.specs.Words.{words_of}
 
 unfoldable on_scripts : Unit {0}
 unfolding script_of lines_from call_line words_of call_rows decimal_in hex_in is_decimal is_numeral

@@ -3,4 +3,3 @@ pub mod Examples
 pub mod LineCuts
 pub mod Reading
 pub mod Splits
-pub mod Words

@@ -1,7 +1,11 @@
 -- The first line of some bytes, and those after it.
-use Rattle.script_lines.proofs.Words.{◌≡◌, ◌∙◌, ◌<◌, ◌+◌, ◌-◌, ◌∷◌, ℕ, Bool, false, List, [], None, Some, length, take, drop, refl, sym, ap, arith}
-use Rattle.script_lines.proofs.Words.{ne_eqb, length-slice_split, ◌==◌, position, count_by, slice_split, lines, lines_of_parts, strip_carriage_return}
-use Rattle.script_lines.proofs.Words.{rest-whole, split-cut, split-none}
+use Rattle.std.proofs.Common.{◌≡◌, ◌∙◌, ◌<◌, ◌+◌, ◌-◌, ◌∷◌, ℕ, Bool, false, List, [], None, Some, length, take, drop, refl, sym, ap, arith}
+use Rattle.std.proofs.lemmas.Bool.{ne_eqb}
+use Rattle.std.proofs.lemmas.List.Splits.{length-slice_split}
+use Rattle.std.specs.Prelude.{◌==◌, position}
+use Rattle.std.specs.List.{count_by, slice_split}
+use Rattle.std.specs.Str.Lines.{lines, lines_of_parts, strip_carriage_return}
+use Rattle.table_rows.proofs.Splits.{rest-whole, split-cut, split-none}
 
 abbrev is_newline : ℕ → Bool
 is_newline b = b == 10

@@ -1,8 +1,14 @@
 -- A text that is read line by line.
-use Rattle.script_lines.proofs.Words.{◌≡◌, ◌∙◌, ◌<◌, ◌≤◌, ◌+◌, ◌∷◌, ◌++◌, ℕ, true, false, List, [], length, refl, sym, ap, arith, append_assoc, lines}
-use Rattle.script_lines.proofs.Words.{Text, RowRefusal, Cause, Memory, Answers, Format, ReadsLines, Refused, lines_from, onto, put_before, fault_at}
-use Rattle.script_lines.proofs.Words.{is_skipped}
+use Rattle.std.proofs.Common.{◌≡◌, ◌∙◌, ◌<◌, ◌≤◌, ◌+◌, ◌∷◌, ◌++◌, ℕ, true, false, List, [], length, refl, sym, ap, arith, append_assoc}
 use Rattle.std.specs.Prelude.{Result, Ok, Err}
+use Rattle.std.specs.Str.Lines.{lines}
+use Rattle.table_rows.specs.Texts.{Text}
+use Rattle.table_rows.specs.declared.fault.RowRefusal.{RowRefusal}
+use Rattle.table_rows.specs.declared.fault.RowRefusal.TheVariants.{Cause, Memory}
+use Rattle.script_lines.specs.Answers.{Answers}
+use Rattle.script_lines.specs.ByLine.{Format, ReadsLines, Refused, lines_from, onto, put_before}
+use Rattle.script_lines.specs.Causes.{fault_at}
+use Rattle.script_lines.specs.Lines.{is_skipped}
 
 abbrev whole : {S L C : Type 0} → Format S L C → S → List ℕ → Result (List L) (Refused C)
 whole format first bytes = lines_from format 1 first (lines bytes)

@@ -1,8 +1,11 @@
 -- The words of a line, word by word.
-use Rattle.script_lines.proofs.Words.{◌≡◌, ◌∙◌, ◌<◌, ◌≤◌, ◌+◌, ◌-◌, ◌∷◌, ◌++◌, ℕ, List, [], Bool, true, false, length, take, drop, get_or, refl, sym}
-use Rattle.script_lines.proofs.Words.{ap, arith, length-drop, append_assoc, list_all-append, not, ◌&&◌, list_all, is_blank, ends_here, in_first}
-use Rattle.script_lines.proofs.Words.{with_word, words_of}
+use Rattle.std.proofs.Common.{◌≡◌, ◌∙◌, ◌<◌, ◌≤◌, ◌+◌, ◌-◌, ◌∷◌, ◌++◌, ℕ, List, [], Bool, true, false, length, take, drop, get_or, refl, sym, ap, arith, length-drop, append_assoc}
 use Rattle.std.proofs.lemmas.List.{length-take-le, drop_more, take_more, drop_all, take-append-drop, drop-drop, get_or-drop, append-nil}
+use Rattle.std.proofs.lemmas.List.Folds.{list_all-append}
+use Rattle.std.specs.Prelude.{not, ◌&&◌}
+use Rattle.std.specs.List.{list_all}
+use Rattle.table_rows.specs.Texts.{is_blank}
+use Rattle.script_lines.specs.Words.{ends_here, in_first, with_word, words_of}
 
 abbrev pub is_plain : ℕ → Bool
 is_plain b = not (is_blank b)

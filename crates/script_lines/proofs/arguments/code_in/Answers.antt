@@ -1,4 +1,5 @@
-use Rattle.script_lines.proofs.Words.{arith, sym, hex_in-range}
+use Rattle.std.proofs.Common.{arith, sym}
+use Rattle.table_rows.proofs.Ranges.{hex_in-range}
 use Rattle.script_lines.proofs.arguments.code_in.Goals as goal
 
 pub overflow_cast-result : goal.overflow_cast-result

@@ -1,4 +1,5 @@
-use Rattle.script_lines.proofs.Words.{arith, sym, decimal_in-range}
+use Rattle.std.proofs.Common.{arith, sym}
+use Rattle.table_rows.proofs.Ranges.{decimal_in-range}
 use Rattle.script_lines.proofs.arguments.number_in.Goals as goal
 
 pub overflow_cast-result : goal.overflow_cast-result

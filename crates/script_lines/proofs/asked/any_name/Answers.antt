@@ -1,8 +1,12 @@
-use Rattle.script_lines.proofs.Words.{◌∙◌, List, ℕ, ap, refl, sym, bytes_eq, drop_all, get_or-map, word_of, CallRow, Nothing, call_rows, form_of, row}
+use Rattle.std.proofs.Common.{◌∙◌, List, ℕ, ap, refl, sym}
+use Rattle.std.specs.Str.{bytes_eq}
+use Rattle.std.proofs.lemmas.List.{drop_all, get_or-map}
+use Rattle.call_type.specs.CallNames.{word_of}
 use Rattle.call_type.specs.declared.call_name.CallName.TheVariants as name
 use Rattle.call_type.specs.declared.call.Asked.TheVariants as asked
 use Rattle.call_type.specs.declared.call.Call.TheVariants as call
 use Rattle.script_lines.proofs.CallLemmas.{form_of-skips}
+use Rattle.script_lines.specs.Calls.{CallRow, Nothing, call_rows, form_of, row}
 use Rattle.script_lines.proofs.asked.any_name.Goals as goal
 
 first : CallRow

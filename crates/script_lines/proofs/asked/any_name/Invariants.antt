@@ -1,4 +1,5 @@
-use Rattle.script_lines.proofs.Words.{◌≡◌, drop, call_rows, form_of}
+use Rattle.std.proofs.Common.{◌≡◌, drop}
+use Rattle.script_lines.specs.Calls.{call_rows, form_of}
 use Rattle.script_lines.proofs.asked.any_name.Given as goal
 
 abbrev pub invariant-loop-name : goal.invariant-loop-name

@@ -1,4 +1,5 @@
-use Rattle.script_lines.proofs.Words.{◌∙◌, ◌∷◌, ◌-◌, ◌+◌, List, ℕ, ap, drop, length, take, sym, lines}
+use Rattle.std.proofs.Common.{◌∙◌, ◌∷◌, ◌-◌, ◌+◌, List, ℕ, ap, drop, length, take, sym}
+use Rattle.std.specs.Str.Lines.{lines}
 use Rattle.script_lines.proofs.LineCuts.{lines-cut_rest, lines-last}
 use Rattle.script_lines.proofs.line.cut_line.Goals as goal
 

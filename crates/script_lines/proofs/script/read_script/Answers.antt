@@ -1,5 +1,8 @@
-use Rattle.script_lines.proofs.Words.{◌≡◌, ◌∙◌, ◌<◌, ◌+◌, ◌∷◌, ◌++◌, [], arith, length, length-append, sym, ap, append-nil, Ok, All-nil, All-push}
-use Rattle.script_lines.proofs.Words.{THREADS, script_of, scripts}
+use Rattle.std.proofs.Common.{◌≡◌, ◌∙◌, ◌<◌, ◌+◌, ◌∷◌, ◌++◌, [], arith, length, length-append, sym, ap, append-nil}
+use Rattle.std.specs.Prelude.{Ok}
+use Rattle.std.proofs.lemmas.List.Elements.{All-nil, All-push}
+use Rattle.papi_base.specs.declared.limits.TheConstants.{THREADS}
+use Rattle.script_lines.specs.Scripts.{script_of, scripts}
 use Rattle.script_lines.proofs.Reading.{reads-end, reads-fault, reads-line, reads-skipped, reads-start}
 use Rattle.script_lines.proofs.script.read_script.Goals as goal
 

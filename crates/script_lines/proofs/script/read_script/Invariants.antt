@@ -1,4 +1,6 @@
-use Rattle.script_lines.proofs.Words.{length, IsScript, scripts}
+use Rattle.std.proofs.Common.{length}
+use Rattle.script_lines.specs.Kept.{IsScript}
+use Rattle.script_lines.specs.Scripts.{scripts}
 use Rattle.script_lines.proofs.Reading.{Reads}
 use Rattle.script_lines.proofs.script.read_script.Given as goal
 
