@@ -4,7 +4,7 @@ ghost use Rattle.papi_c.specs.Called.{CodesName};
 ghost use Rattle.papi_c.specs.Numbers.{Answers, AnswersCount, TellsCount, code_listed, component_coded, counter_count, native_count, row_coded};
 ghost use Rattle.papi_c.specs.Placed.{ArePlaced, Listed, Lists, codes_of};
 
-use crate::handle::{EINVAL, Handle, on_library, on_library_by_name};
+use crate::handle::{Handle, einval, on_library, on_library_by_name};
 use crate::numbers::give;
 use papi_base::{Code, Events, code_number};
 use papi_calls::Library;
@@ -35,7 +35,7 @@ fn list(library: &Library, events: &Events, out: &mut [u32], count: &mut u64) ->
     let n = events.len() as usize;
     *count = n as u64;
     if n > out.len() {
-        return EINVAL;
+        return einval();
     }
     for i in 0..n {
         out[i] = library.code_of_event(&events.at(i as u32)).unwrap_or(0);

@@ -4,7 +4,7 @@ ghost use Rattle.papi_c.specs.Faults as Faults;
 ghost use Rattle.papi_c.specs.Faults.{TellsFault, unit_told};
 ghost use Rattle.papi_c.specs.Placed.{ArePlaced};
 
-use crate::handle::{EINVAL, ENOMEM};
+use crate::handle::{ENOMEM, einval};
 use crate::texts::spell;
 use event_tables::{TableFault, cause_text as row_text, read_unit};
 use papi_base::{LineCause, cause_text};
@@ -64,7 +64,7 @@ pub extern "C" fn kistalub_presets_fault(
         length.new out.old out.new }
 {
     let Ok(cpu) = std::str::from_utf8(cpu) else {
-        return EINVAL;
+        return einval();
     };
     match read_extended(alloc, presets, cpu) {
         Ok(_) => tell(0, "", row, out, length),

@@ -3,7 +3,7 @@ ghost use Rattle.std.specs.Prelude.{◌≡◌};
 ghost use Rattle.papi_c.specs.Fed.{FeedsThrough, fed_fault, fed_number};
 
 use crate::faults::{StreamFault, cause_number};
-use crate::handle::{EINVAL, ENOMEM, Handle, on_library};
+use crate::handle::{ENOMEM, Handle, einval, on_library};
 use std::alloc::Global;
 use stream_reader::Fed;
 
@@ -12,7 +12,7 @@ fn fed_number(fed: Fed) -> i32
 {
     match fed {
         Fed::Whole => 0,
-        Fed::Bad { .. } | Fed::Closed => EINVAL,
+        Fed::Bad { .. } | Fed::Closed => einval(),
     }
 }
 

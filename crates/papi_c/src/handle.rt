@@ -1,10 +1,13 @@
 //! Handles: what C holds of a library.
 ghost use Rattle.std.specs.Prelude.{◌≡◌, Option, Some, None};
 ghost use Rattle.std.specs.Option.{option_map};
+ghost use Rattle.papi_base.specs.Codes.{number_of};
+ghost use Rattle.papi_base.specs.declared.code.Code.TheVariants as code;
 ghost use Rattle.papi_c.specs.Held.{held};
 ghost use Rattle.papi_calls.specs.Libraries.{LibraryView};
 
 use crate::parts::Parts;
+use papi_base::{Code, code_number};
 use papi_calls::Library;
 use std::alloc::Global;
 use std::marker::Model;
@@ -13,11 +16,16 @@ use std::ptr::null_mut;
 /// Memory was refused.
 pub(crate) const ENOMEM: i32 = -2;
 
-/// A text or a file is faulty.
-pub(crate) const EINVAL: i32 = -1;
-
 /// The handle has no library.
 pub(crate) const ENOINIT: i32 = -16;
+
+/// A text or a file is faulty.
+#[inline(always)]
+pub(crate) fn einval() -> i32
+    ensures { result ≡ number_of code.Einval }
+{
+    code_number(Code::Einval)
+}
 
 /// What C holds of a library: null if none is open.
 #[repr(C)]
@@ -122,7 +130,7 @@ pub(crate) use on_library;
 macro_rules! on_library_by_name {
     ($alloc:ident, $h:ident, $name:ident, |$library:ident| $call:expr) => {{
         let Ok($name) = std::str::from_utf8($name) else {
-            return $crate::handle::EINVAL;
+            return $crate::handle::einval();
         };
         let Ok(answer) = $crate::handle::on_library!($alloc, $h, |$library| $call) else {
             return $crate::handle::ENOMEM;

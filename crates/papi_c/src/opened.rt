@@ -3,7 +3,7 @@ ghost use Rattle.std.specs.Prelude.{◌≡◌, ◌≢◌, Option, Some, None, ne
 ghost use Rattle.papi_c.specs.Opened.{AreFaultless, IsOpenedBy};
 ghost use Rattle.papi_calls.specs.Libraries.{LibraryView};
 
-use crate::handle::{EINVAL, ENOMEM, Handle};
+use crate::handle::{ENOMEM, Handle, einval};
 use crate::opening::{OpenFault, open};
 use std::alloc::Global;
 
@@ -26,7 +26,7 @@ pub extern "C" fn kistalub_open(
     ensures kept { result ≢ pos 0 → h.new.library ≡ h.old.library }
 {
     let Ok(cpu) = std::str::from_utf8(cpu) else {
-        return EINVAL;
+        return einval();
     };
     match open(alloc, unit, presets, cpu, thread, stream) {
         Ok(library) => match Box::new(alloc, library) {
@@ -36,7 +36,7 @@ pub extern "C" fn kistalub_open(
             }
             Err(_) => ENOMEM,
         },
-        Err(OpenFault::Faulty) => EINVAL,
+        Err(OpenFault::Faulty) => einval(),
         Err(OpenFault::Memory) => ENOMEM,
     }
 }

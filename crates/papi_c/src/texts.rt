@@ -5,7 +5,7 @@ ghost use Rattle.papi_c.specs.Asked.{info_asked, part_numbered};
 ghost use Rattle.papi_c.specs.Placed.{AnswersItems, ArePlaced, IsRefused, Spells};
 ghost use Rattle.papi_calls.specs.Codes.{event_coded, map_ok};
 
-use crate::handle::{EINVAL, ENOMEM, Handle, on_library};
+use crate::handle::{ENOMEM, Handle, einval, on_library};
 use papi_base::{Code, code_number};
 use papi_calls::{InfoPart, Library};
 use std::alloc::{AllocError, Global};
@@ -17,7 +17,7 @@ pub(crate) fn spell(text: &str, out: &mut [u8], length: &mut u64) -> i32
     let bytes = text.as_bytes();
     *length = bytes.len() as u64;
     if bytes.len() > out.len() {
-        return EINVAL;
+        return einval();
     }
     out[..bytes.len()].copy_from_slice(bytes);
     0
