@@ -7,7 +7,7 @@ from dataclasses import dataclass, field
 from functools import lru_cache
 from pathlib import Path
 
-from running import ROOT
+from here import ROOT
 
 
 @dataclass(frozen=True)

@@ -6,8 +6,8 @@ from dataclasses import dataclass, field
 from pathlib import Path
 from random import Random
 
+from formats.scripts import CALLS
 from running import EXAMPLES, RUNNING
-from scripts import CALLS
 
 NUMBERS = [
     "0", "1", "2", "3", "5", "8", "31", "32", "33", "63", "64", "65", "255", "256", "500", "1000", "65535", "65536", "1000000", "1000001",

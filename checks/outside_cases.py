@@ -10,7 +10,7 @@ from pathlib import Path
 from random import Random
 from typing import Callable, Union
 
-from running import ROOT
+from here import ROOT
 
 Word = Union[str, bytes]
 SIGNED = 0.15  # how many calls get a signal that did not ask for one by waiting

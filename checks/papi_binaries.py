@@ -10,7 +10,8 @@ from dataclasses import dataclass
 from pathlib import Path
 from typing import Callable, Iterator
 
-from papi_library import ROOT, Files, Library, Ran, run
+from here import ROOT
+from papi_library import Files, Library, Ran, run
 
 SECONDS = 120
 

@@ -8,8 +8,9 @@ from pathlib import Path
 from time import monotonic
 from typing import Iterator
 
+from here import ROOT
 from papi_binaries import PROGRAMS, Case
-from papi_library import ROOT, Library, Ran, run
+from papi_library import Library, Ran, run
 
 COUNT = ROOT / "tools/count"
 SECONDS = 600

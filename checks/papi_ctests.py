@@ -9,7 +9,8 @@ from dataclasses import dataclass
 from pathlib import Path
 from time import monotonic
 
-from papi_library import CHECKS, Ran, run
+from here import CHECKS
+from papi_library import Ran, run
 
 EXPECTED = CHECKS / "papi_ctests.expected"
 SECONDS = 600

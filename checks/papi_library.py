@@ -10,8 +10,8 @@ from dataclasses import dataclass
 from pathlib import Path
 from typing import IO, Iterable
 
-CHECKS = Path(__file__).resolve().parent
-ROOT = CHECKS.parent
+from here import ROOT
+
 SHARED = "libpapi.so.7.0"
 
 

@@ -9,8 +9,9 @@ from concurrent.futures import ThreadPoolExecutor
 from dataclasses import dataclass
 from pathlib import Path
 
+from here import ROOT
 from papi_ctests import Tests, expectations
-from papi_library import ROOT, Files, Ran, run
+from papi_library import Files, Ran, run
 
 SOURCES = ROOT / "c"
 SECONDS = 900

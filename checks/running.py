@@ -14,7 +14,8 @@ from dataclasses import dataclass
 from pathlib import Path
 from typing import Callable, Union
 
-ROOT = Path(__file__).resolve().parent.parent
+from here import ROOT
+
 EXAMPLES = ROOT / "examples"
 PROGRAM = ROOT / "crates/papi/out/papi"
 SECONDS = 10

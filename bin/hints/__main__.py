@@ -10,9 +10,9 @@ from __future__ import annotations
 import os
 import sys
 
+from formats.texts import plain
 from hinting import hints_on
 from silent import SILENT
-from texts import plain
 
 
 SILENT_STATUS = 10

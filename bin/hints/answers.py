@@ -5,12 +5,12 @@ from __future__ import annotations
 from itertools import islice
 from typing import Callable, Iterable, List, Optional
 
-from files import Unread, read_lines
-from presets import SYMBOLS, Presets, cpu_fault, instead_of, name_fault, read_presets, why_unavailable
-from scripts import Call, calls_of
-from texts import near, shown
-from units import Unit, fault_of, read_unit
-from words import Words
+from formats.files import Unread, read_lines
+from formats.presets import SYMBOLS, Presets, cpu_fault, instead_of, name_fault, read_presets, why_unavailable
+from formats.scripts import Call, calls_of
+from formats.texts import counted, near, shown
+from formats.units import Unit, fault_of, read_unit
+from formats.words import Words
 
 MOST_NAMES = 3  # of a script that are told
 
@@ -45,7 +45,7 @@ def _of_avail(read: Words, unit: Unit, presets: Presets | None) -> list[str]:
 
 def _of_others(presets: Presets) -> str:
     others = len(set(presets.passed_over))
-    return f"; of its {_counted(others, 'row')} of other presets tools/preset_rows makes user events" if others else ""
+    return f"; of its {counted(others, 'row')} of other presets tools/preset_rows makes user events" if others else ""
 
 
 def _of_native_avail(read: Words, unit: Unit, presets: Presets | None) -> list[str]:
@@ -99,12 +99,12 @@ def why_no_total(read: Words) -> str:
     calls = [call for call in calls_of(read_lines(read.others[0])) if call.thread == thread]
     sets = [call for call in calls if call.arguments[:1] == (str(number),)]
     if streams <= thread:
-        return f"thread {thread} has no stream: the first stream belongs to thread 0, the next to thread 1, and the words name {_counted(streams, 'stream')}"
+        return f"thread {thread} has no stream: the first stream belongs to thread 0, the next to thread 1, and the words name {counted(streams, 'stream')}"
     if not any(call.name == "overflow" and call.arguments[2] != "0" for call in sets):
         return f"the script has no overflow call for set {number} of thread {thread}{_overflows(calls)}"
     most = sum(call.name == "add" for call in sets)
     if index >= most:
-        return f"set {number} of thread {thread} has at most {_counted(most, 'event')}, numbered from 0, and --index is {index}"
+        return f"set {number} of thread {thread} has at most {counted(most, 'event')}, numbered from 0, and --index is {index}"
     return "" if any(call.name == "run" for call in calls) else f"the script has no run of thread {thread}"
 
 
@@ -112,10 +112,6 @@ def _overflows(calls: list[Call]) -> str:
     """The sets of a thread that have a threshold."""
     sets = sorted({int(call.arguments[0]) for call in calls if call.name == "overflow"})
     return f" (it has some for set {', '.join(map(str, sets))}: --set)" if sets else ""
-
-
-def _counted(number: int, word: str) -> str:
-    return f"{number} {word}{'' if number == 1 else 's'}"
 
 
 def _first(faults: Iterable[str]) -> list[str]:

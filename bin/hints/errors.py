@@ -6,12 +6,12 @@ import os
 import re
 from typing import Callable
 
-from files import Unread, line_of, read_lines, read_table
-from rows import map_fault, preset_fault, unit_fault
-from scripts import CALLS, REGION_CALLS, line_fault, region_fault
-from streams import stream_fault
-from texts import cut, near, shown
-from words import Words
+from formats.files import Unread, line_of, read_lines, read_table
+from formats.rows import map_fault, preset_fault, unit_fault
+from formats.scripts import CALLS, REGION_CALLS, line_fault, region_fault
+from formats.streams import stream_fault
+from formats.texts import cut, near, shown
+from formats.words import Words
 
 NO_FILE = re.compile(r"papi: no such file: (.*)")
 ROW = re.compile(r"papi: (.*): row ([0-9]+): (.*)")

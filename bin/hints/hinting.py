@@ -4,11 +4,11 @@ from __future__ import annotations
 
 from answers import answer_hints
 from errors import error_hints
-from forms import Form, near_tools
+from formats.forms import Form, near_tools
+from formats.texts import shown
+from formats.words import Words, word_faults
 from refused import refusal_hints
 from silent import silent_hints
-from texts import shown
-from words import Words, word_faults
 
 ANSWERED = (0, 1)  # the statuses of a whole answer
 BAD_WORDS = "papi: bad words"

@@ -6,13 +6,13 @@ import re
 from dataclasses import dataclass
 from typing import Optional, Sequence
 
-from files import Unread, read_lines
-from presets import Presets, cpu_fault, name_fault, read_presets
-from refusals import NAME_FAULTS, SENTENCES, causes_of, why_not
-from scripts import CALLS, Call, calls_of
-from texts import cut
-from units import Unit, read_unit
-from words import Words
+from formats.files import Unread, read_lines
+from formats.presets import Presets, cpu_fault, name_fault, read_presets
+from formats.refusals import NAME_FAULTS, SENTENCES, causes_of, why_not
+from formats.scripts import CALLS, Call, calls_of
+from formats.texts import cut
+from formats.units import Unit, read_unit
+from formats.words import Words
 
 MOST_REFUSALS = 10  # that are told
 REPLY = re.compile(r"([0-9]+) ([0-9]+) ([a-z]+) (PAPI_E[A-Z0-9]+)((?: \S+)*)")

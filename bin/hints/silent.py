@@ -9,11 +9,11 @@ import re
 from dataclasses import dataclass
 from typing import Iterable, Iterator, Sequence
 
-from files import Unread, check, read_lines
-from presets import Presets, name_fault, read_presets
-from scripts import Call, calls_of
-from units import Event, Unit, fault_of, parts_of, read_unit
-from words import Words
+from formats.files import Unread, check, read_lines
+from formats.presets import Presets, name_fault, read_presets
+from formats.scripts import Call, calls_of
+from formats.units import Event, Unit, fault_of, parts_of, read_unit
+from formats.words import Words
 
 MOST_TOLD = 10
 SILENT = "counts 0: no line of the streams has its code"

@@ -329,8 +329,8 @@ REGIONS: dict[str, dict[str, Callable[[list[Call]], list[str]]]] = {
     "crates/script_lines/src/asked.rt": {"names": all_names, "arms": eventless_lines, "events": event_arms},
     "crates/script_runner/src/asking.rt": {"": event_lines},
     "crates/thread_session/src/answers.rt": {"": answer_lines},
-    "bin/hints/scripts.py": {"": argument_lines},
-    "bin/hints/refusals.py": {"": rule_lines},
+    "bin/hints/formats/scripts.py": {"": argument_lines},
+    "bin/hints/formats/refusals.py": {"": rule_lines},
     "docs/FORMATS.md": {"calls": call_rows, "refusals": refusal_rows},
 }
 USAGE, ABOVE_CALLS = "bin/usage/papi_run", "Beside each call stands PAPI's:"

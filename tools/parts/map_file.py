@@ -6,11 +6,10 @@ import re
 from dataclasses import dataclass
 from typing import Iterable
 
+from formats.rows import MOST_BUCKETS, MOST_WIDTH
 from parts.symbols import Function
 
 MOST_RANGES = 1024
-MOST_BUCKETS = 65_536
-WIDEST = 1_048_576
 LONGEST_NAME = 64
 ADDRESSES = 1 << 64
 
@@ -50,7 +49,7 @@ def ranges_of(functions: list[Function], base: int) -> list[Range]:
     """A range for each function, with the narrowest buckets of which there are not too many. The functions stand in order."""
     stretches = _stretches(largest(functions), base)
     widest = 1
-    while widest < WIDEST and sum(stretch.buckets(widest) for stretch in stretches) > MOST_BUCKETS:
+    while widest < MOST_WIDTH and sum(stretch.buckets(widest) for stretch in stretches) > MOST_BUCKETS:
         widest *= 2
     room = MOST_BUCKETS
     ranges: list[Range] = []

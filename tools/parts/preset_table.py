@@ -130,7 +130,7 @@ REGIONS: dict[str, Callable[[list[Preset]], list[str]]] = {
     "crates/preset_csv/src/symbols.rt": code_lines,
     "crates/preset_csv/specs/Symbols.antt": definition_lines,
     "c/presets.c": modelled_lines,
-    "bin/hints/presets.py": symbol_lines,
+    "bin/hints/formats/presets.py": symbol_lines,
     "checks/cases.py": number_lines,
     "checks/drawing.py": symbol_lines,
     "docs/FORMATS.md": document_lines,

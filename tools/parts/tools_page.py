@@ -3,14 +3,11 @@
 from __future__ import annotations
 
 import re
-import sys
 from typing import Sequence
 
+from formats.refusals import RULES, SENTENCES, causes_of
 from parts.command import read_file
 from parts.usage import ROOT, Error, Usage, read_errors, read_usage, summaries, tools
-
-sys.path.append(str(ROOT / "bin/hints"))
-from refusals import RULES, SENTENCES, causes_of
 
 CONFLICT = "PAPI_ECNFLCT"
 

@@ -5,13 +5,14 @@ from __future__ import annotations
 import re
 from dataclasses import dataclass
 
+from formats.rows import NAME
+from formats.units import MODIFIERS
+
 MOST_COUNTERS = 32
 MOST_EVENTS = 1024
 MOST_UMASKS = 16
 MOST_BYTES = 1_048_576
 LONGEST_DESCRIPTION = 200
-MODIFIER_NAMES = ("u", "k", "e", "i", "c")
-NAME = re.compile(r"[A-Za-z0-9_-]{1,64}")
 
 
 @dataclass(frozen=True)
@@ -90,8 +91,8 @@ def plain(description: str) -> str:
 
 
 def is_name(text: str) -> bool:
-    return NAME.fullmatch(text) is not None
+    return re.fullmatch(NAME, text) is not None
 
 
 def is_umask_name(text: str) -> bool:
-    return is_name(text) and text.lower() not in MODIFIER_NAMES
+    return is_name(text) and text.lower() not in MODIFIERS

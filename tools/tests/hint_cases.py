@@ -2,15 +2,10 @@
 
 from __future__ import annotations
 
-import sys
 from dataclasses import dataclass, field
 
-from tests.support import ROOT
-
-sys.path.append(str(ROOT / "bin/hints"))
-
-from presets import SYMBOLS
-from scripts import CALLS
+from formats.presets import SYMBOLS
+from formats.scripts import CALLS
 
 NO_CALL_NEAR = f"none of the {len(CALLS)} that there are is near"
 

@@ -7,7 +7,6 @@ import ctypes
 import os
 import shutil
 import subprocess
-import sys
 import tempfile
 import unittest
 from contextlib import contextmanager
@@ -15,11 +14,10 @@ from functools import lru_cache
 from pathlib import Path
 from typing import Any, Callable, Iterable, Iterator, Mapping, TypeVar
 
+from shared_library import built_library as built_library  # also for the tests of the module
+
 TOOLS = Path(__file__).resolve().parent.parent
 ROOT = TOOLS.parent
-sys.path.insert(0, str(ROOT / "python/tests"))
-
-from shared_library import built_library as built_library  # also for the tests of the module
 
 Item = TypeVar("Item")
 

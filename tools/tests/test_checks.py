@@ -8,16 +8,13 @@ import sys
 import time
 import unittest
 
-from tests.support import ROOT, InFolder, all_of, some
-
-sys.path.append(str(ROOT / "checks"))
-
 from cases import CALLS, PRESETS, read_tables
 from mutant_c import Programs
 from mutant_changes import changes_of
 from mutant_parts import PARTS, without_part
 from running import processor_of, session_is_held_up
 from seen_lines import Seen, instrument, lines_of_statements, module_lines
+from tests.support import ROOT, InFolder, all_of, some
 
 
 class Document(unittest.TestCase):

@@ -5,9 +5,9 @@ from __future__ import annotations
 import unittest
 from xml.etree import ElementTree
 
+from formats.refusals import why_not
 from parts.report.matrix import MARGIN, Picture, Row, draw_alone
 from parts.report.unit_counters import Counter
-from refusals import why_not
 from tests.support import ROOT, needs_program, run_tool
 
 LAB = str(ROOT / "examples/lab.unit")

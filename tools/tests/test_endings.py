@@ -278,7 +278,7 @@ class Signals(Ending):
         code = ("import pathlib, sys\nfrom parts.command import end_with\nfrom parts.report import asking\nasking.ROOT = pathlib.Path(sys.argv[1])\n"
                 "def work():\n with asking.Tools(asking.Tables('unit')):\n  pass\nend_with('report', work)\n")
         for number in (signal.SIGINT, signal.SIGTERM, signal.SIGHUP):
-            ended = self.ended_by(number, sys.executable, "-B", "-c", code, str(self.folder), PYTHONPATH=f"{TOOLS}:{ROOT}/bin/hints")
+            ended = self.ended_by(number, sys.executable, "-B", "-c", code, str(self.folder), PYTHONPATH=str(TOOLS))
             self.assertEqual(ended, (128 + number, b""))
             (self.folder / "cleaned").unlink()
 
@@ -293,7 +293,7 @@ class Signals(Ending):
         for work in (record, report):
             code = f"import os, signal, subprocess, sys\nfrom parts.command import end_with\n{work}{begun}end_with('it', work)\n"
             (self.folder / "pid").unlink(missing_ok=True)
-            done = subprocess.run([sys.executable, "-B", "-c", code, slow], cwd=self.folder, env={**os.environ, "PYTHONPATH": f"{TOOLS}:{ROOT}/bin/hints"}, capture_output=True)
+            done = subprocess.run([sys.executable, "-B", "-c", code, slow], cwd=self.folder, env={**os.environ, "PYTHONPATH": str(TOOLS)}, capture_output=True)
             self.assertEqual((done.returncode, done.stderr), (128 + signal.SIGTERM, b""))
             found = (self.folder / "pid").read_text().strip() if (self.folder / "pid").exists() else ""
             self.assertFalse(found and Path("/proc", found).exists())

@@ -11,19 +11,16 @@ import tempfile
 import unittest
 from pathlib import Path
 
+from formats.presets import SYMBOLS
+from formats.scripts import CALLS, REGION_CALLS
+from formats.texts import LONGEST, cut, plain
+from hinting import hints_on
+from silent import OTHERWISE
 from tests.hint_cases import CASES, FILES, NO_LINE, Case
-from tests.support import PROGRAM, ROOT, InFolder, needs_libpfm4, needs_program, run_tool
 from tests.hint_edges import EDGES
+from tests.support import PROGRAM, ROOT, InFolder, needs_libpfm4, needs_program, run_tool
 
 HINTS = ROOT / "bin/hints"
-sys.path.append(str(HINTS))
-
-from hinting import hints_on
-from presets import SYMBOLS
-from scripts import CALLS, REGION_CALLS
-from silent import OTHERWISE
-from texts import LONGEST, cut, plain
-
 FORMATS = ROOT / "docs/FORMATS.md"
 PLACE = "crates/papi/out/papi"
 EVERY = CASES + EDGES
@@ -162,7 +159,7 @@ class Scripts(InFolder):
 
     def test_a_python_that_fails(self) -> None:
         self.program("echo 'papi: bad words' >&2", "exit 2")
-        (self.folder / "bin/hints/texts.py").write_text("this is no Python")
+        (self.folder / "bin/hints/formats/texts.py").write_text("this is no Python")
         self.assertEqual(self.call(f"{self.tool} s"), (2, b"", b"papi: bad words\n"))
 
     def test_outputs_that_take_nothing(self) -> None:

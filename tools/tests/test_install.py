@@ -97,6 +97,15 @@ class Install(InFolder):
         full = subprocess.run(["sh", "-c", '"$1" --help >/dev/full', "sh", str(self.prefix / "bin/papi_run")], capture_output=True)
         self.assertEqual(full.returncode, 5)
 
+    def test_hints_find_their_parts(self) -> None:
+        self.put("crates/papi/out/papi", "#!/bin/sh\necho 'papi: bad words' >&2\nexit 2\n")
+        self.put("bin/hints/formats/__pycache__/units.pyc", "")
+        self.install(self.prefix)
+        done = subprocess.run([str(self.prefix / "bin/papi_run"), "s"], capture_output=True, text=True, env={**os.environ, "XDG_CACHE_HOME": str(self.folder / "cache")})
+        self.assertEqual((done.returncode, done.stdout, done.stderr.splitlines()[:1]), (2, "", ["papi: bad words"]))
+        self.assertIn("\nhint: -U UNIT is missing", done.stderr)
+        self.assertEqual(list(self.prefix.rglob("__pycache__")), [])
+
     def test_recording_finds_its_parts(self) -> None:
         self.install(self.prefix)
         for tool in ("papi_record", "papi_count"):

@@ -38,8 +38,8 @@ class MakeCalls(unittest.TestCase):
             "crates/script_lines/src/asked.rt": ["    CallName::Probe,", "        CallName::Probe => one_number(arguments).map(|set| Asked::Call(Call::ProbeSet { set })),"],
             "crates/script_runner/src/asking.rt": ["        call_type::Call::ProbeSet { set } => Call::ProbeSet { set },"],
             "crates/thread_session/src/answers.rt": ["        Call::ProbeSet { set } => reply(core.probe_set(book, *set).map(Body::SetNumber)),"],
-            "bin/hints/scripts.py": ['"probe": ("SET",),'],
-            "bin/hints/refusals.py": ['    "probe": "ENOEVST",'],
+            "bin/hints/formats/scripts.py": ['"probe": ("SET",),'],
+            "bin/hints/formats/refusals.py": ['    "probe": "ENOEVST",'],
             "bin/usage/papi_run": ["  probe SET                       replies how many events it has (PAPI_num_events)"],
             "docs/FORMATS.md": ["| `probe` | SET | the number of events |", ", `probe` | `ENOEVST` |"],
         }

@@ -5,8 +5,9 @@ from __future__ import annotations
 import subprocess
 import unittest
 
+from formats.rows import MOST_BUCKETS
 from parts.command import Fault
-from parts.map_file import ADDRESSES, MOST_BUCKETS, MOST_RANGES, map_names, ranges_of
+from parts.map_file import ADDRESSES, MOST_RANGES, map_names, ranges_of
 from parts.stream_head import MOST_LINES, read_base
 from parts.symbols import Function, is_loaded_anywhere, read_functions
 from tests.support import TOOLS, InFolder, all_of, needs_command, run_tool

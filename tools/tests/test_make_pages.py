@@ -8,14 +8,14 @@ import unittest
 from typing import Callable
 from unittest import mock
 
+from formats.forms import papi_calls
+from formats.refusals import SENTENCES
+from formats.scripts import CALLS, REGION_CALLS
 from parts.command import Fault
 from parts.command_page import Page, command_page, command_section, parser_of
 from parts.manual_page import manual_page, synopsis
 from parts.tools_page import codes_section, tools_page
 from parts.usage import EXAMPLES, ROOT, read_errors, read_usage, summaries, tools
-from forms import papi_calls
-from refusals import SENTENCES
-from scripts import CALLS, REGION_CALLS
 from tests.support import InFolder, needs_command, some
 
 

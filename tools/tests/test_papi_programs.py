@@ -3,20 +3,16 @@
 from __future__ import annotations
 
 import re
-import sys
 import tempfile
 import unittest
 from pathlib import Path
-
-from tests.support import ROOT, all_of
-
-sys.path.append(str(ROOT / "checks"))
 
 import papi_sanitized
 import papi_stream
 from papi_counted import why_of
 from papi_ctests import FAIL, PASS, SKIP, UNBUILT, expectations, verdict_of
 from papi_library import Files, Ran, run
+from tests.support import ROOT, all_of
 
 LINE = re.compile(r"\d+ [0-9a-f]{2} [0-9a-f]{2} [uk] \d+ [0-9a-f]{1,16}\n")
 

@@ -7,6 +7,8 @@ import shutil
 import subprocess
 import unittest
 
+from formats.refusals import NAME_FAULTS, RULES, SENTENCES, causes_of
+from formats.scripts import CALLS, Call, calls_of
 from parts.command import Fault
 from parts.profile import Bucket
 from parts.report.asking import OF_BUILD, Answer, Tables, Tools
@@ -21,8 +23,6 @@ from parts.report.story import Conflict, Reading, Setup, Span, Story, tell_story
 from parts.report.summary import off_by, totals_of
 from parts.report.turns import Clock, Turn, clock_of, turns_of
 from parts.report.unit_counters import read_counters
-from refusals import NAME_FAULTS, RULES, SENTENCES, causes_of
-from scripts import CALLS, Call, calls_of
 from tests.markup import faults_of
 from tests.support import ROOT, InFolder, needs_command, needs_program
 

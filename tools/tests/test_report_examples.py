@@ -7,8 +7,8 @@ from html.parser import HTMLParser
 from pathlib import Path
 from typing import ClassVar
 
+from formats.scripts import calls_of
 from parts.report.asking import OF_BUILD
-from scripts import calls_of
 from tests.markup import faults_of
 from tests.support import ROOT, InFolder, needs_program, run_tool
 

@@ -10,10 +10,10 @@ import sys
 import time
 from pathlib import Path
 
+from formats.scripts import calls_of
 from parts.report.probe import MOST_CALLS, probe_of
 from parts.report.replies import Step
 from parts.report.story import tell_story
-from scripts import calls_of
 from tests.support import ROOT, TOOLS, InFolder, needs_program, run_tool
 from tests.test_hints import PLACE, make_tree
 
@@ -90,10 +90,10 @@ class Ended(InFolder):
         self.assertFalse(Path(f"/proc/{process.read_text().strip()}/exe").exists())
 
     def test_a_signal_while_the_folder_is_made(self) -> None:
-        code = "\n".join(("import os, sys, tempfile", "sys.path[:0] = sys.argv[1:]", "from parts.command import end_by_termination, end_with", "from parts.report.asking import Tables, Tools",
+        code = "\n".join(("import os, tempfile", "from parts.command import end_by_termination, end_with", "from parts.report.asking import Tables, Tools",
                           "end_by_termination()", "make = tempfile.mkdtemp", "def interrupted(*words):", "  made = make(*words)", "  os.kill(os.getpid(), 15)", "  return made",
                           "tempfile.mkdtemp = interrupted", "end_with('it', lambda: Tools(Tables('unit')))"))
         temporary = self.folder / "temporary"
         temporary.mkdir()
-        done = subprocess.run([sys.executable, "-B", "-c", code, str(TOOLS), str(TOOLS.parent / "bin/hints")], env={**os.environ, "TMPDIR": str(temporary)}, capture_output=True, text=True)
+        done = subprocess.run([sys.executable, "-B", "-c", code], env={**os.environ, "PYTHONPATH": str(TOOLS), "TMPDIR": str(temporary)}, capture_output=True, text=True)
         self.assertEqual((done.returncode, done.stderr, list(temporary.iterdir())), (128 + signal.SIGTERM, "", []))

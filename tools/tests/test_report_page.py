@@ -8,6 +8,7 @@ import unittest
 from pathlib import Path
 from typing import Sequence
 
+from formats.scripts import calls_of
 from parts.profile import Bucket, FunctionHits, Profile
 from parts.report import making, profiles, timeline
 from parts.report.asking import Tables, Tools
@@ -29,7 +30,6 @@ from parts.report.timeline import Timing, draw_timelines
 from parts.report.times import Time, times_of
 from parts.report.turns import Clock, Turn, clock_of
 from parts.report.unit_counters import Counter
-from scripts import calls_of
 from tests.markup import faults_of, outside
 from tests.support import ROOT, InFolder, needs_command, needs_program
 

@@ -6,9 +6,8 @@ import re
 from dataclasses import replace
 from typing import Sequence
 
-from refusals import SENTENCES, why_not
-from scripts import calls_of
-
+from formats.refusals import SENTENCES, why_not
+from formats.scripts import calls_of
 from parts.command import Fault, counted
 from parts.report.asking import Tables, Tools
 from parts.report.matrix import Picture, draw_alone

@@ -11,8 +11,7 @@ from dataclasses import dataclass
 from pathlib import Path
 from typing import Iterable, Mapping, Sequence
 
-from files import Unread, read_lines
-
+from formats.files import Unread, read_lines
 from parts.command import Fault, uninterrupted
 
 ROOT = Path(__file__).resolve().parents[3]

@@ -5,17 +5,16 @@ from __future__ import annotations
 from dataclasses import replace
 from typing import Sequence
 
-from files import Unread, read_table
-from scripts import calls_of
-
+from formats.files import Unread, read_table
+from formats.scripts import calls_of
 from parts.command import Fault
 from parts.report.asking import Tools
 from parts.report.replies import Step, read_replies
 from parts.report.story import Story, tell_story
+from parts.unit_file import MOST_BYTES
 
 COUNTERS = "0123456789abcdefghijklmnopqrstuv"  # 32, as many as a set has native events
 BITS = 48
-MOST_BYTES = 1_048_576  # of a unit file
 # Calls that are refused of a set without turns, or say something else of it.
 LEFT_OUT = ("multiplex", "assign", "raw", "state")
 

@@ -5,9 +5,8 @@ from __future__ import annotations
 import re
 from dataclasses import dataclass, field
 
-from refusals import NAME_FAULTS, OF_NAME, RULES, why_not
-from scripts import calls_of
-
+from formats.refusals import NAME_FAULTS, OF_NAME, RULES, why_not
+from formats.scripts import calls_of
 from parts.command import counted
 from parts.report.asking import Answer, Tables, Tools, check_files, read_again, tell
 from parts.report.curves import draw_curves

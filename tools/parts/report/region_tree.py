@@ -8,8 +8,7 @@ from __future__ import annotations
 from dataclasses import dataclass, field
 from typing import Sequence
 
-from scripts import Call, calls_of
-
+from formats.scripts import Call, calls_of
 from parts.command import Fault
 from parts.report.asking import SAYS_NO, Tools, read_again
 

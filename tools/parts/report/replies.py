@@ -5,8 +5,7 @@ from __future__ import annotations
 from dataclasses import dataclass
 from typing import Iterable, Sequence
 
-from scripts import CALLS, Call
-
+from formats.scripts import CALLS, Call
 from parts.command import Fault
 
 OK = "PAPI_OK"

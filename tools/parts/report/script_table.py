@@ -4,8 +4,7 @@ from __future__ import annotations
 
 from typing import Sequence
 
-from refusals import SENTENCES
-
+from formats.refusals import SENTENCES
 from parts.command import counted
 from parts.report.markup import Child, Markup, element
 from parts.report.replies import Step

@@ -5,8 +5,7 @@ from __future__ import annotations
 from dataclasses import dataclass, field
 from typing import Sequence
 
-from scripts import calls_of
-
+from formats.scripts import calls_of
 from parts.report.asking import Tools
 from parts.report.matrix import Picture, Row
 from parts.report.replies import read_replies

@@ -6,8 +6,7 @@ from bisect import bisect_right
 from dataclasses import dataclass, field
 from typing import Callable, Mapping, Sequence
 
-from scripts import calls_of
-
+from formats.scripts import calls_of
 from parts.report.asking import Tools
 from parts.report.replies import read_replies
 from parts.report.turns import Clock

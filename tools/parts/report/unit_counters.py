@@ -4,8 +4,7 @@ from __future__ import annotations
 
 from dataclasses import dataclass
 
-from files import Unread, read_table
-
+from formats.files import Unread, read_table
 from parts.command import Fault
 from parts.report.asking import NOT_TWICE
 

@@ -4,7 +4,7 @@ from __future__ import annotations
 
 import re
 
-from texts import shown
+from .texts import shown
 
 DIGITS = "two hexadecimal digits"
 FIELDS = (

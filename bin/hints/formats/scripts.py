@@ -6,8 +6,8 @@ import re
 from dataclasses import dataclass
 from typing import Mapping
 
-from forms import papi_calls
-from texts import near, shown
+from .forms import papi_calls
+from .texts import near, shown
 
 # tools/make_calls: begin
 CALLS: dict[str, tuple[str, ...]] = {

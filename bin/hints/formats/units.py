@@ -5,8 +5,8 @@ from __future__ import annotations
 import re
 from dataclasses import dataclass, field, replace
 
-from files import read_table
-from texts import near, shown
+from .files import read_table
+from .texts import near, shown
 
 MODIFIERS = ("u", "k", "e", "i", "c")
 SWITCH = re.compile(r"[01nyft]", re.IGNORECASE)

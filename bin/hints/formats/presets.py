@@ -4,9 +4,9 @@ from __future__ import annotations
 
 from dataclasses import dataclass, field
 
-from files import read_table
-from texts import near, shown
-from units import Unit, fault_of
+from .files import read_table
+from .texts import near, shown
+from .units import Unit, fault_of
 
 # tools/make_presets: begin
 SYMBOLS = (

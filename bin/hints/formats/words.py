@@ -5,8 +5,8 @@ from __future__ import annotations
 import re
 from dataclasses import dataclass, field
 
-from forms import Form, Option, Place, limits_of
-from texts import near, shown
+from .forms import Form, Option, Place, limits_of
+from .texts import near, shown
 
 MOST_EVENTS = 32
 CPU = re.compile(r"(?! )[ -+\--~]{1,64}(?<! )")

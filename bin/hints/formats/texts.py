@@ -31,6 +31,11 @@ def _escaped(letter: str) -> str:
     return f"\\x{byte:02x}" if 0x80 <= byte <= 0xFF else repr(letter)[1:-1]
 
 
+def counted(number: int, word: str) -> str:
+    """`1 set`, `2 sets`."""
+    return f"{number} {word}{'' if number == 1 else 's'}"
+
+
 def near(text: str, names: Iterable[str]) -> str:
     """` (near: A, B)`, or all that there are if nothing is near, or how many."""
     by_case: dict[str, str] = {}

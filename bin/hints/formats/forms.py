@@ -6,9 +6,9 @@ import re
 from dataclasses import dataclass
 from pathlib import Path
 
-from texts import near
+from .texts import near
 
-USAGE = Path(__file__).resolve().parent.parent / "usage"
+USAGE = Path(__file__).resolve().parents[2] / "usage"
 CALL = re.compile(r"  ([a-z]+)\b.*?  ")
 RANGE = re.compile(r"\b([0-9]+) to ([0-9]+)\b")
 

@@ -5,6 +5,8 @@ from __future__ import annotations
 import re
 from typing import Sequence
 
+from .texts import counted
+
 # PAPI_strerror(3) of PAPI 7.0, for the codes that a reply may have.
 SENTENCES = {
     "PAPI_OK": "No error",
@@ -82,10 +84,6 @@ def why_not(events: int, counters: Sequence[str]) -> str:
     if not counters:
         return f"{'This event is' if events == 1 else 'These events are'} allowed no counter."
     told = counters[0] if len(counters) == 1 else f"{', '.join(counters[:-1])} and {counters[-1]}"
-    allowed = f"{_counted(len(counters), 'counter')}, {told}, and no others"
+    allowed = f"{counted(len(counters), 'counter')}, {told}, and no others"
     without = events - len(counters)
-    return f"These {_counted(events, 'event')} are allowed {allowed}. So {'one of them has' if without == 1 else f'{without} of them have'} no place."
-
-
-def _counted(number: int, word: str) -> str:
-    return f"{number} {word}{'' if number == 1 else 's'}"
+    return f"These {counted(events, 'event')} are allowed {allowed}. So {'one of them has' if without == 1 else f'{without} of them have'} no place."

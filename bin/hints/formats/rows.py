@@ -5,10 +5,10 @@ from __future__ import annotations
 import re
 from typing import Mapping
 
-from files import Row
-from presets import COMPUTED, READ_ALONE, entry_of
-from texts import near, shown
-from units import MODIFIERS
+from .files import Row
+from .presets import COMPUTED, READ_ALONE, entry_of
+from .texts import near, shown
+from .units import MODIFIERS
 
 NAME = r"[A-Za-z0-9_-]{1,64}"
 NAME_WANTED = "1 to 64 letters, digits, _ and -"
@@ -108,8 +108,8 @@ def _place_fault(fields: list[str], above: list[list[str]]) -> str:
 def _umask_fault(fields: list[str], inside: list[list[str]]) -> str:
     """For a row of the counters or of the modifiers of a umask."""
     kinds = [other[0] for other in inside]
-    event = next((inside[place:] for place in reversed(range(len(kinds))) if kinds[place] == "EVENT"), [])
-    own = next((event[place:] for place in reversed(range(len(event))) if event[place][0] == "UMASK"), [])
+    event: list[list[str]] = next((inside[place:] for place in reversed(range(len(kinds))) if kinds[place] == "EVENT"), [])
+    own: list[list[str]] = next((event[place:] for place in reversed(range(len(event))) if event[place][0] == "UMASK"), [])
     if not own:
         return f"no UMASK row of its event stands above this {fields[0]} row"
     if any(other[0] == fields[0] for other in own):
