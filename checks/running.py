@@ -16,6 +16,8 @@ from typing import Callable, Union
 
 from here import ROOT
 
+from formats.causes import one_of
+
 EXAMPLES = ROOT / "examples"
 PROGRAM = ROOT / "crates/papi/out/papi"
 SECONDS = 10
@@ -192,28 +194,16 @@ def differs(run: Run, wanted: Run) -> str:
     return "; ".join(said)
 
 
-UNIT_CAUSES = ["bad row", "over a limit", "repeated name", "width out of range", "unknown counter"]
-PRESET_CAUSES = ["preset before cpu", "bad field", "over a limit", "broken formula"]
-MAP_CAUSES = ["bad row", "over a limit", "repeated name", "ranges overlap"]
-SCRIPT_CAUSES = ["over a limit", "bad thread", "unknown call", "wrong arguments", "bad number"]
-REGION_CAUSES = ["wrong region", "region not ended"]
-STREAM_CAUSES = ["line too long", "stream too long", "wrong number of fields", "bad field", "stamp does not rise"]
-
-
-def _any(causes: list[str]) -> str:
-    return f"(?:{'|'.join(dict.fromkeys(causes))})"
-
-
 # The lines that end a call, each with its status. NAME is the end of a word, since an option and its value may be one word.
 ENDINGS = [
     (rf"papi: bad words\n", REFUSED),
     (rf"papi: no such file: (?P<name>.*)\n", REFUSED),
     (rf"papi: cannot read: (?P<name>.*)\n", READ_FAULT),
     (rf"papi: (?P<name>.*): too large\n", REFUSED),
-    (rf"papi: (?P<name>.*): row [1-9][0-9]*: {_any(UNIT_CAUSES + PRESET_CAUSES + MAP_CAUSES)}\n", REFUSED),
-    (rf"papi: (?P<name>.*): line [1-9][0-9]*: {_any(SCRIPT_CAUSES + REGION_CAUSES)}\n", REFUSED),
+    (rf"papi: (?P<name>.*): row [1-9][0-9]*: {one_of('unit', 'presets', 'map')}\n", REFUSED),
+    (rf"papi: (?P<name>.*): line [1-9][0-9]*: {one_of('script', 'regions')}\n", REFUSED),
 ]
-STREAM_LINE = rf"papi: stream ([0-9]|[1-5][0-9]|6[0-3]): (?:line [1-9][0-9]*: {_any(STREAM_CAUSES)}|(read failed))\n"
+STREAM_LINE = rf"papi: stream ([0-9]|[1-5][0-9]|6[0-3]): (?:line [1-9][0-9]*: {one_of('stream')}|(read failed))\n"
 
 
 def _ending(err: bytes, words: list[Word]) -> int | None:

@@ -6,6 +6,7 @@ import os
 import re
 from typing import Callable
 
+from formats.causes import NOT_ENDED, WRONG_REGION, one_of
 from formats.files import Unread, line_of, read_lines, read_table
 from formats.rows import map_fault, preset_fault, unit_fault
 from formats.scripts import CALLS, REGION_CALLS, line_fault, region_fault
@@ -17,7 +18,7 @@ NO_FILE = re.compile(r"papi: no such file: (.*)")
 ROW = re.compile(r"papi: (.*): row ([0-9]+): (.*)")
 LINE = re.compile(r"papi: (.*): line ([0-9]+): (.*)")
 # A script may have the name `stream 0`. The causes tell a line of a stream from one of a script.
-STREAM = re.compile(r"papi: stream ([0-9]+): line ([0-9]+): (line too long|stream too long|wrong number of fields|bad field|stamp does not rise)")
+STREAM = re.compile(rf"papi: stream ([0-9]+): line ([0-9]+): ({one_of('stream')})")
 ROW_FAULTS = {"-U": unit_fault, "-P": preset_fault, "-M": map_fault}
 MOST_STREAMS = 3  # of which faults are shown
 
@@ -62,7 +63,7 @@ def _row_hints(read: Words, name: str, number: int, cause: str) -> list[str]:
 
 def _line_hints(read: Words, name: str, number: int, cause: str) -> list[str]:
     lines = read_lines(name)
-    if cause in ("wrong region", "region not ended"):
+    if cause in (WRONG_REGION, NOT_ENDED):
         fault = region_fault(lines, number)
     else:
         fault = line_fault(lines[number - 1], cause, REGION_CALLS if "--events" in read.options else CALLS)

@@ -5,6 +5,7 @@ from __future__ import annotations
 import re
 from typing import Mapping
 
+from .causes import BAD_FIELD, BAD_ROW, BAD_WIDTH, BROKEN_FORMULA, NO_CPU, OVER_LIMIT, OVERLAP, REPEATED_NAME, UNKNOWN_COUNTER
 from .files import Row
 from .presets import COMPUTED, READ_ALONE, entry_of
 from .texts import near, shown
@@ -66,12 +67,12 @@ def unit_fault(rows: list[Row], place: int, cause: str) -> str:
     """What is wrong with a row of a unit file whose cause the program says. All rows above it are good."""
     row = rows[place]
     above = [other.fields() for other in rows[:place] if not other.is_skipped()]
-    if cause == "bad row":
+    if cause == BAD_ROW:
         return form_fault(row, UNIT_FIELDS) or _place_fault(row.fields(), above)
     fields = row.fields()
-    if cause == "width out of range":
+    if cause == BAD_WIDTH:
         return f"the width is {shown(fields[2])}, and 16 to 48 is wanted"
-    if cause == "unknown counter":
+    if cause == UNKNOWN_COUNTER:
         if fields[0] == "UMASK_COUNTERS":
             event = next(other for other in reversed(above) if other[0] == "EVENT")
             missing = next(name for name in fields[1].split() if name not in event[3].split())
@@ -79,9 +80,9 @@ def unit_fault(rows: list[Row], place: int, cause: str) -> str:
         own = [other[1] for other in _component(above) if other[0] == "COUNTER"]
         missing = next(name for name in fields[3].split() if name not in own)
         return f"no row above has the counter {shown(missing)} in its component{near(missing, own)}"
-    if cause == "repeated name":
+    if cause == REPEATED_NAME:
         return _repeated(rows, place)
-    return f"at most {MOST_OF_UNIT[fields[0]]} are taken" if cause == "over a limit" else ""
+    return f"at most {MOST_OF_UNIT[fields[0]]} are taken" if cause == OVER_LIMIT else ""
 
 
 def _component(above: list[list[str]]) -> list[list[str]]:
@@ -134,18 +135,18 @@ def _repeated(rows: list[Row], place: int) -> str:
 
 
 def map_fault(rows: list[Row], place: int, cause: str) -> str:
-    if cause == "bad row":
+    if cause == BAD_ROW:
         return form_fault(rows[place], MAP_FIELDS) or _limit_fault(rows[place].fields())
-    if cause not in ("repeated name", "ranges overlap"):
+    if cause not in (REPEATED_NAME, OVERLAP):
         return ""
     own = rows[place].fields()
     for other in rows[:place]:
         fields = other.fields()
         if other.is_skipped():
             continue
-        if cause == "repeated name" and fields[1] == own[1]:
+        if cause == REPEATED_NAME and fields[1] == own[1]:
             return f"line {other.line} has the name {own[1]} already"
-        if cause == "ranges overlap" and _start(fields) < _end(own) and _start(own) < _end(fields):
+        if cause == OVERLAP and _start(fields) < _end(own) and _start(own) < _end(fields):
             return f"{own[1]} goes {_span(own)}, and {fields[1]} (line {other.line}) {_span(fields)}"
     return ""
 
@@ -172,13 +173,13 @@ def _end(fields: list[str]) -> int:
 def preset_fault(rows: list[Row], place: int, cause: str) -> str:
     kind, *fields = rows[place].fields()
     entry = entry_of(fields)
-    if cause == "preset before cpu":
+    if cause == NO_CPU:
         return "a row CPU,name is wanted above it"
-    if cause == "over a limit":
+    if cause == OVER_LIMIT:
         return f"it has {len(entry.natives)} native events, and at most {MOST_NATIVES} are taken" if len(entry.natives) > MOST_NATIVES else ""
-    if cause == "broken formula":
+    if cause == BROKEN_FORMULA:
         return formula_fault(entry.formula, len(entry.natives)) if entry.kind == "DERIVED_POSTFIX" else ""
-    if cause != "bad field":
+    if cause != BAD_FIELD:
         return ""
     if entry.kind not in (*COMPUTED, *READ_ALONE):
         return f"the type is {shown(entry.kind)}{near(entry.kind, (*COMPUTED, *READ_ALONE))}"

@@ -6,6 +6,7 @@ import re
 from dataclasses import dataclass
 from typing import Mapping
 
+from .causes import BAD_ARGUMENTS, BAD_NUMBER, BAD_THREAD, UNKNOWN_CALL
 from .forms import papi_calls
 from .texts import near, shown
 
@@ -62,15 +63,15 @@ def line_fault(text: str, cause: str, calls: Mapping[str, tuple[str, ...]]) -> s
     if not words:
         return "the line has spaces alone; an empty line has none"
     thread, name, *arguments = [*words, ""][: max(2, len(words))]
-    if cause == "bad thread":
+    if cause == BAD_THREAD:
         return f"{shown(thread)} stands where the thread is wanted, 0 to 63: 0 {thread.lower() if thread.lower() in calls else next(iter(calls))}"
-    if cause == "unknown call":
+    if cause == UNKNOWN_CALL:
         return _unknown_call(name, calls) if name else f"no call stands after the thread{near('', calls)}"
     if name not in calls:
         return ""
-    if cause == "wrong arguments":
+    if cause == BAD_ARGUMENTS:
         return _arguments_fault(name, arguments, calls[name])
-    if cause == "bad number":
+    if cause == BAD_NUMBER:
         return next((fault for kind, text in zip(calls[name], arguments) if (fault := _number_fault(kind, text))), "")
     return ""
 

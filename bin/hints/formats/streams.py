@@ -4,6 +4,7 @@ from __future__ import annotations
 
 import re
 
+from .causes import BAD_FIELD, BAD_FIELDS, LONG_LINE
 from .texts import shown
 
 DIGITS = "two hexadecimal digits"
@@ -24,11 +25,11 @@ def stream_fault(text: str, has_stamps: bool, cause: str) -> str:
     """What is wrong with a line whose cause the program says, or nothing if the cause says it all."""
     form = (*FIELDS, STAMP) if has_stamps else FIELDS
     fields = text.split(" ")
-    if cause == "line too long":
+    if cause == LONG_LINE:
         return f"at most {MOST_BYTES} bytes are a line, comments too"
-    if cause == "wrong number of fields":
+    if cause == BAD_FIELDS:
         return _number_fault(text, fields, form)
-    if cause == "bad field":
+    if cause == BAD_FIELD:
         for number, (field, (what, wanted_form, wanted)) in enumerate(zip(fields, form), start=1):
             if not re.fullmatch(wanted_form, field) or (number > len(FIELDS) and int(field) > LAST_STAMP):
                 return f"field {number}, {what}, is {shown(field)}, and {wanted} is wanted"
