@@ -45,26 +45,7 @@ zero-at n i = go (nat_lt i n) refl
     go false t = let past = ltb-false i n t in slice_get_past (replicate n 0) i (omega (arith, past, length-replicate {A = ℕ} n 0))
 
 pub fresh-counts : (ranges : List RangeText) (rows : List RowText) → rows ≡ no_counts ranges → IsHistogram (hist_text ranges rows 0 0) []
-fresh-counts ranges rows is = record {
-  buckets = λ k i.
-      ap (λ (x : List RowText). bucket_in x k i) is ∙ ap (option_and_then (λ (row : RowText). slice_get row.buckets i)) (slice_get-map (λ (r : RangeText). no_hits r.buckets) ranges k)
-      ∙ bucket i (slice_get ranges k);
-  hits = λ k.
-      ap (λ (x : List RowText). option_map (λ (row : RowText). row.hits) (slice_get x k)) is
-      ∙ ap (option_map (λ (row : RowText). row.hits)) (slice_get-map (λ (r : RangeText). no_hits r.buckets) ranges k)
-      ∙ hit (slice_get ranges k);
-  outside = refl;
-  total = refl;
-}
-  where
-    bucket : (i : ℕ) (o : Option RangeText) → option_and_then (λ (row : RowText). slice_get row.buckets i) (option_map (λ (r : RangeText). no_hits r.buckets) o)
-        ≡ option_and_then (λ (r : RangeText). if nat_lt i r.buckets then Some 0 else None) o
-    bucket i None = refl
-    bucket i (Some r) = zero-at r.buckets i
-
-    hit : (o : Option RangeText) → option_map (λ (row : RowText). row.hits) (option_map (λ (r : RangeText). no_hits r.buckets) o) ≡ option_map (λ (r : RangeText). 0) o
-    hit None = refl
-    hit (Some r) = refl
+fresh-counts ranges rows is = grind (arith, slice_get-map, zero-at)
 
 some-within : (xs : List ℕ) (i : ℕ) → is_some (slice_get xs i) ≡ nat_lt i (length xs)
 some-within xs i = go (nat_lt i (length xs)) refl

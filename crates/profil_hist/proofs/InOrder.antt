@@ -1,5 +1,5 @@
 -- The search of the range of an address among the ranges in the order of their addresses.
-use Rattle.profil_hist.proofs.Words.{◌≡◌, ◌∙◌, ◌+◌, ◌-◌, ◌*◌, ◌/◌, ◌<◌, ◌≤◌, ◌∷◌, ℕ, zero, suc, List, [], Option, Some, None, Bool, true, false}
+use Rattle.profil_hist.proofs.Words.{◌≡◌, ◌∙◌, ◌+◌, ◌-◌, ◌*◌, ◌/◌, ◌<◌, ◌≤◌, ◌∷◌, ℕ, zero, suc, List, [], Some, Bool, true, false}
 use Rattle.profil_hist.proofs.Words.{length, get_or, refl, sym, ap, subst, arith, map, ◌++◌, eq-eqb, or-true, div-lt_iff_lt-mul, div-mul-le_self}
 use Rattle.profil_hist.proofs.Words.{lt-mul-div-succ, mul_comm, mul-le-mul, eqb-true, lt-ltb, ltb-false, ltb-true, false_from_ne_true, and_from}
 use Rattle.profil_hist.proofs.Words.{slice_get-get_or, slice_get-map, slice_get_within, ◌||◌, ◌==◌, nat_lt, option_map, slice_get, length-map}
@@ -12,17 +12,7 @@ use Rattle.profil_hist.proofs.Noted.{inside, true-not-false, two-apart, within}
 
 pub bucket-found : (r : RangeText) (pc : ℕ) → 1 ≤ r.width → in_range r pc ≡ true
     → (in_bucket r ((pc - r.start) / r.width) pc ≡ true) × ((pc - r.start) / r.width < r.buckets)
-bucket-found r pc wide e =
-    let h = inside r.start (end_of r) pc e in
-    let q : ℕ = (pc - r.start) / r.width in
-    let low = div-mul-le_self (pc - r.start) r.width in
-    let high = lt-mul-div-succ (pc - r.start) {b = r.width} (omega (arith, wide)) in
-    let turn : r.width * (q + 1) ≡ (q + 1) * r.width = mul_comm r.width (q + 1) in
-    let span : r.width * r.buckets ≡ r.buckets * r.width = mul_comm r.width r.buckets in
-    let few : pc - r.start < r.buckets * r.width = omega (arith, h.lower, h.upper, span) in (
-      within (r.start + q * r.width) (r.start + (q + 1) * r.width) pc (omega (arith, low, h.lower)) (omega (arith, high, turn, h.lower)),
-      (div-lt_iff_lt-mul {k = r.width} {x = pc - r.start} {y = r.buckets} (omega (arith, wide))).1 few,
-    )
+bucket-found r pc wide e = grind (arith, inside, div-mul-le_self, lt-mul-div-succ, mul_comm, within, div-lt_iff_lt-mul)
 
 -- ---- the range of an address
 
@@ -40,10 +30,7 @@ none-of-all [] pc h = refl
 none-of-all (x ∷ rest) pc h = rw (h zero x refl, none-of-all rest pc (λ k r e. h (suc k) r e)) refl
 
 start-of : (ranges : List RangeText) (p : RangeStart) (k : ℕ) (r : RangeText) → IsPlaced ranges p → p.range ≡ k → slice_get ranges k ≡ Some r → r.start ≡ p.start
-start-of ranges p k r is same at =
-    let there : slice_get ranges p.range ≡ Some r = ap (slice_get ranges) same ∙ at in
-    let both : Some r.start ≡ Some p.start = sym (ap (option_map (λ (x : RangeText). x.start)) there) ∙ is in
-    cc both
+start-of ranges p k r is same at = grind arith
 
 -- the range that holds an address is among those that start at it or below it
 record Below (r : RangeText) (places : List RangeStart) (below : ℕ) : Type 0 where
@@ -108,11 +95,7 @@ pub at-range : (items : List MapRange) (i : ℕ) (x : MapRange) → x ≡ get_or
 at-range items i x e lt = slice_get-map range_text items i ∙ ap (option_map range_text) (slice_get-get_or items i x lt ∙ ap (λ (y : MapRange). Some y) (sym e))
 
 mapped-within : {X : Type 0} (f : RangeText → X) (items : List MapRange) (i : ℕ) (v : X) → option_map f (slice_get (map range_text items) i) ≡ Some v → i < length items
-mapped-within f items i v e = go (slice_get (map range_text items) i) refl e
-  where
-    go : (o : Option RangeText) → slice_get (map range_text items) i ≡ o → option_map f o ≡ Some v → i < length items
-    go None at e = cc e
-    go (Some r) at e = let lt = slice_get_within (map range_text items) i r at in omega (arith, lt, length-map items range_text)
+mapped-within f items i v e = grind (arith, slice_get_within, length-map)
 
 pub placed-within : (items : List MapRange) (p : RangeStart) → IsPlaced (map range_text items) p → p.range < length items
 placed-within items p is = mapped-within (λ (r : RangeText). r.start) items p.range p.start is

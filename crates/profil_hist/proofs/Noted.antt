@@ -1,10 +1,10 @@
 -- One program counter more in a histogram.
-use Rattle.profil_hist.proofs.Words.{◌≡◌, ◌∙◌, ◌+◌, ◌*◌, ◌<◌, ◌≤◌, ◌^◌, ◌∷◌, ◌++◌, ℕ, zero, suc, List, [], Option, Some, None, Bool, true, false, map}
+use Rattle.profil_hist.proofs.Words.{◌≡◌, ◌∙◌, ◌+◌, ◌<◌, ◌≤◌, ◌^◌, ◌∷◌, ◌++◌, ℕ, zero, suc, List, [], Option, Some, None, Bool, true, false, map}
 use Rattle.profil_hist.proofs.Words.{length, get_or, refl, sym, ap, subst, arith, eq-eqb, length-append, set, length-set, mul_comm, mul-le-mul_right}
 use Rattle.profil_hist.proofs.Words.{eqb-true, ltb-false, le-leb, leb-true, lt-ltb, ltb-true, and_parts, false_from_ne_true, and_from, list_any_at}
 use Rattle.profil_hist.proofs.Words.{sum_by-append, sum_by-set, get_or_from_slice_get, slice_get-map, slice_get_within, list_any, option_and_then}
 use Rattle.profil_hist.proofs.Words.{option_map_or, all_at, none_any, IsThere, RowText, met, with_hit, with_note, HistText, IsHist, IsHistogram}
-use Rattle.profil_hist.proofs.Words.{bucket_count, range_count, IsPlaceOf, NoTwo, RangeText, end_of, in_bucket, in_range, overlaps, Place}
+use Rattle.profil_hist.proofs.Words.{bucket_count, range_count, IsPlaceOf, NoTwo, RangeText, in_bucket, in_range, overlaps, Place}
 use Rattle.std.specs.Prelude.{◌&&◌, ◌==◌, count_by, if◌then◌else◌, nat_le, nat_lt, not, option_map, slice_get, sum, sum_by}
 
 -- ---- tests and numbers
@@ -26,33 +26,16 @@ within low high n l h = and_from _ _ (le-leb low n l) (lt-ltb n high h)
 
 -- what a bucket holds, its range holds
 pub bucket-inside : (r : RangeText) (i pc : ℕ) → i < r.buckets → in_bucket r i pc ≡ true → in_range r pc ≡ true
-bucket-inside r i pc lt e =
-    let h = inside (r.start + i * r.width) (r.start + (i + 1) * r.width) pc e in
-    let more : (i + 1) * r.width ≤ r.buckets * r.width = mul-le-mul_right {m = i + 1} {n = r.buckets} r.width (omega arith) in
-    let same : r.buckets * r.width ≡ r.width * r.buckets = mul_comm r.buckets r.width in
-    within r.start (end_of r) pc (omega (arith, h.lower)) (omega (arith, h.upper, more, same))
+bucket-inside r i pc lt e = grind (arith, inside, mul-le-mul_right, mul_comm, within)
 
 not-above : (r : RangeText) (i j pc : ℕ) → in_bucket r i pc ≡ true → in_bucket r j pc ≡ true → j ≤ i
-not-above r i j pc e f =
-    let h = inside (r.start + i * r.width) (r.start + (i + 1) * r.width) pc e in
-    let k = inside (r.start + j * r.width) (r.start + (j + 1) * r.width) pc f in
-    go (nat_lt i j) refl h.upper k.lower
-  where
-    go : (b : Bool) → nat_lt i j ≡ b → pc < r.start + (i + 1) * r.width → r.start + j * r.width ≤ pc → j ≤ i
-    go true t u l =
-        let lt = ltb-true i j t in
-        let more : (i + 1) * r.width ≤ j * r.width = mul-le-mul_right {m = i + 1} {n = j} r.width (omega arith) in
-        absurd (omega (arith, more, u, l))
-    go false t u l = omega (arith, ltb-false i j t)
+not-above r i j pc e f = grind (arith, inside, ltb-true, mul-le-mul_right, ltb-false)
 
 bucket-unique : (r : RangeText) (i j pc : ℕ) → in_bucket r i pc ≡ true → in_bucket r j pc ≡ true → i ≡ j
 bucket-unique r i j pc e f = let a = not-above r i j pc e f in let b = not-above r j i pc f e in omega (arith, a, b)
 
 shared : (r s : RangeText) (pc : ℕ) → in_range r pc ≡ true → in_range s pc ≡ true → overlaps r s ≡ true
-shared r s pc e f =
-    let h = inside r.start (end_of r) pc e in
-    let k = inside s.start (end_of s) pc f in
-    and_from _ _ (lt-ltb r.start (end_of s) (omega (arith, h.lower, k.upper))) (lt-ltb s.start (end_of r) (omega (arith, k.lower, h.upper)))
+shared r s pc e f = grind (arith, inside, and_from, lt-ltb)
 
 -- two places of a map whose ranges overlap are one
 pub two-apart : (ranges : List RangeText) (k m : ℕ) (r s : RangeText) → NoTwo overlaps ranges → slice_get ranges k ≡ Some r → slice_get ranges m ≡ Some s
@@ -77,16 +60,10 @@ range-unique ranges k m r s pc apart a b e f = two-apart ranges k m r s apart a 
 -- ---- counts of a list with one item more
 
 count-yes : (p : ℕ → Bool) (xs : List ℕ) (x : ℕ) → p x ≡ true → count_by p (xs ++ x ∷ []) ≡ count_by p xs + 1
-count-yes p xs x h =
-    let e = sum_by-append (λ (y : ℕ). if p y then 1 else 0) xs (x ∷ []) in
-    let one : sum_by (λ (y : ℕ). if p y then 1 else 0) (x ∷ []) ≡ 1 = rw h refl in
-    omega (arith, e, one)
+count-yes p xs x h = grind (arith, sum_by-append)
 
 count-no : (p : ℕ → Bool) (xs : List ℕ) (x : ℕ) → p x ≡ false → count_by p (xs ++ x ∷ []) ≡ count_by p xs
-count-no p xs x h =
-    let e = sum_by-append (λ (y : ℕ). if p y then 1 else 0) xs (x ∷ []) in
-    let none : sum_by (λ (y : ℕ). if p y then 1 else 0) (x ∷ []) ≡ 0 = rw h refl in
-    omega (arith, e, none)
+count-no p xs x h = grind (arith, sum_by-append)
 
 -- ---- a list with an item changed
 
@@ -142,29 +119,11 @@ spot ranges rows pc p shape h = go (slice_get ranges p.range) (slice_get rows p.
 
 bucket-others : (ranges : List RangeText) (k i : ℕ) (pcs : List ℕ) (pc : ℕ) → ((s : RangeText) → slice_get ranges k ≡ Some s → in_range s pc ≡ false)
     → bucket_count ranges k i pcs ≡ bucket_count ranges k i (pcs ++ pc ∷ [])
-bucket-others ranges k i pcs pc absent = go (slice_get ranges k) absent
-  where
-    one : (s : RangeText) (b : Bool) → nat_lt i s.buckets ≡ b → in_range s pc ≡ false
-        → (if b then Some (count_by (in_bucket s i) pcs) else None) ≡ (if b then Some (count_by (in_bucket s i) (pcs ++ pc ∷ [])) else None)
-    one s true t f =
-        let out : in_bucket s i pc ≡ false = false_from_ne_true (in_bucket s i pc) (λ h. true-not-false (in_range s pc) (bucket-inside s i pc (ltb-true i s.buckets t) h) f) in
-        ap (λ (n : ℕ). Some n) (sym (count-no (in_bucket s i) pcs pc out))
-    one s false t f = refl
-
-    go : (o : Option RangeText) → ((s : RangeText) → o ≡ Some s → in_range s pc ≡ false)
-        → option_and_then (λ (s : RangeText). if nat_lt i s.buckets then Some (count_by (in_bucket s i) pcs) else None) o
-        ≡ option_and_then (λ (s : RangeText). if nat_lt i s.buckets then Some (count_by (in_bucket s i) (pcs ++ pc ∷ [])) else None) o
-    go None absent = refl
-    go (Some s) absent = one s (nat_lt i s.buckets) refl (absent s refl)
+bucket-others ranges k i pcs pc absent = grind (arith, false_from_ne_true, true-not-false, bucket-inside, ltb-true, count-no)
 
 range-others : (ranges : List RangeText) (k : ℕ) (pcs : List ℕ) (pc : ℕ) → ((s : RangeText) → slice_get ranges k ≡ Some s → in_range s pc ≡ false)
     → range_count ranges k pcs ≡ range_count ranges k (pcs ++ pc ∷ [])
-range-others ranges k pcs pc absent = go (slice_get ranges k) absent
-  where
-    go : (o : Option RangeText) → ((s : RangeText) → o ≡ Some s → in_range s pc ≡ false)
-        → option_map (λ (s : RangeText). count_by (in_range s) pcs) o ≡ option_map (λ (s : RangeText). count_by (in_range s) (pcs ++ pc ∷ [])) o
-    go None absent = refl
-    go (Some s) absent = ap (λ (n : ℕ). Some n) (sym (count-no (in_range s) pcs pc (absent s refl)))
+range-others ranges k pcs pc absent = grind (arith, count-no)
 
 -- ---- one in no range
 
@@ -188,27 +147,7 @@ passed-counts h pc pcs none is =
 bucket-noted : (r : RangeText) (buckets : List ℕ) (j pc : ℕ) (pcs : List ℕ) (i : ℕ) → in_bucket r j pc ≡ true → j < r.buckets
     → ((n : ℕ) → slice_get buckets n ≡ (if nat_lt n r.buckets then Some (count_by (in_bucket r n) pcs) else None))
     → slice_get (set buckets j (get_or buckets j 0 + 1)) i ≡ (if nat_lt i r.buckets then Some (count_by (in_bucket r i) (pcs ++ pc ∷ [])) else None)
-bucket-noted r buckets j pc pcs i holds lt old = go (i == j) refl
-  where
-    at : slice_get buckets j ≡ Some (count_by (in_bucket r j) pcs)
-    at = old j ∙ ap (λ (b : Bool). if b then Some (count_by (in_bucket r j) pcs) else None) (lt-ltb j r.buckets lt)
-
-    here : slice_get (set buckets j (get_or buckets j 0 + 1)) j ≡ (if nat_lt j r.buckets then Some (count_by (in_bucket r j) (pcs ++ pc ∷ [])) else None)
-    here =
-        get-same buckets j (count_by (in_bucket r j) pcs) (get_or buckets j 0 + 1) at
-        ∙ ap (λ (n : ℕ). Some (n + 1)) (get_or_from_slice_get buckets j (count_by (in_bucket r j) pcs) 0 at)
-        ∙ ap (λ (n : ℕ). Some n) (sym (count-yes (in_bucket r j) pcs pc holds))
-        ∙ ap (λ (b : Bool). if b then Some (count_by (in_bucket r j) (pcs ++ pc ∷ [])) else None) (sym (lt-ltb j r.buckets lt))
-
-    go : (b : Bool) → (i == j) ≡ b → slice_get (set buckets j (get_or buckets j 0 + 1)) i ≡ (if nat_lt i r.buckets then Some (count_by (in_bucket r i) (pcs ++ pc ∷ [])) else None)
-    go true e =
-        let P : ℕ → Type 0 = λ n. slice_get (set buckets j (get_or buckets j 0 + 1)) n ≡ (if nat_lt n r.buckets then Some (count_by (in_bucket r n) (pcs ++ pc ∷ [])) else None) in
-        subst P (sym (eqb-true i j e)) here
-    go false e =
-        let out : in_bucket r i pc ≡ false = false_from_ne_true (in_bucket r i pc) (λ h. true-not-false (i == j) (eq-eqb i j (bucket-unique r i j pc h holds)) e) in
-        get-other buckets j i (get_or buckets j 0 + 1) (λ is. true-not-false (i == j) (eq-eqb i j is) e)
-        ∙ old i
-        ∙ ap (λ (n : ℕ). if nat_lt i r.buckets then Some n else None) (sym (count-no (in_bucket r i) pcs pc out))
+bucket-noted r buckets j pc pcs i holds lt old = grind (arith, lt-ltb, set, get-same, get_or_from_slice_get, count-yes, eqb-true, false_from_ne_true, true-not-false, bucket-unique, get-other, count-no)
 
 abbrev pub noted : Place → HistText → HistText
 noted p h = record { map = h.map; rows = with_note p h.rows; outside = h.outside; total = h.total + 1 }
@@ -325,8 +264,4 @@ noted-kept h pc p room is place =
     }
 
 pub spotted-there : (ranges : List RangeText) (rows : List RowText) (pc : ℕ) (p : Place) → Shape ranges rows → IsPlaceOf ranges pc (Some p) → IsThere p rows
-spotted-there ranges rows pc p shape place =
-    let s = spot ranges rows pc p shape place in
-    let spotted : Spot ranges rows pc p s.0 s.1 = s.2 in
-    ap (option_map (λ (row : RowText). nat_lt p.bucket (length row.buckets))) spotted.at_row
-    ∙ ap (λ (b : Bool). Some b) (lt-ltb p.bucket (length s.1.buckets) (omega (arith, spotted.below, spotted.long)))
+spotted-there ranges rows pc p shape place = grind (arith, spot, lt-ltb)

@@ -1,8 +1,8 @@
 -- The text of a histogram, range by range and bucket by bucket.
 use Rattle.profil_hist.proofs.Words.{◌≡◌, ◌∙◌, ◌<◌, ◌+◌, ◌∷◌, ◌++◌, ℕ, zero, suc, List, [], Option, Some, None, Result, Ok, Err, IfOk, length}
-use Rattle.profil_hist.proofs.Words.{slice_get, unwrap_or, flat_map, range_with_len, Text, HistText, IsHistogram, bucket_line, count_or_none}
-use Rattle.profil_hist.proofs.Words.{hist_lines, hits_or_none, last_lines, lines_at, profile_text, range_lines, RangeText, in_bucket, in_range}
-use Rattle.std.proofs.Common.{ap, ap₂, refl, arith, option_map, count_by, lt-ltb, codes, decimal}
+use Rattle.profil_hist.proofs.Words.{slice_get, unwrap_or, flat_map, range_with_len, Text, HistText, IsHistogram, count_or_none}
+use Rattle.profil_hist.proofs.Words.{hist_lines, hits_or_none, lines_at, profile_text, range_lines, RangeText, in_bucket, in_range}
+use Rattle.std.proofs.Common.{ap, ap₂, refl, arith, option_map, count_by, lt-ltb}
 
 -- there is a range in each place below their number
 pub is_there : {X Y : Type 0} (view : Y → X) (found : Option Y) (xs : List X) (k : ℕ) → option_map view found ≡ slice_get xs k → ((y : Y) → found ≡ Some y → ⊥) → k < length xs → ⊥
@@ -32,21 +32,12 @@ counts_are h pcs k r i is there small = let e = is.buckets k i in let s = rw (th
 
 lines_are : (h : HistText) (pcs : List ℕ) (k : ℕ) (r : RangeText) → IsHistogram h pcs → slice_get h.map k ≡ Some r →
     lines_at h k ≡ range_lines r (count_by (in_range r) pcs) (λ i. count_by (in_bucket r i) pcs)
-lines_are h pcs k r is there =
-    rw there (
-    ap (λ n. range_lines r n (count_or_none h k)) (hits_are h pcs k r is there)
-    ∙ ap (λ (t : Text). codes "range " ++ (r.name ++ (codes " " ++ (decimal (count_by (in_range r) pcs) ++ (codes "\n" ++ t)))))
-    (same_lines (λ i. bucket_line r i (count_or_none h k i)) (λ i. bucket_line r i (count_by (in_bucket r i) pcs)) 0 r.buckets
-    (λ i small. ap (bucket_line r i) (counts_are h pcs k r i is there (omega arith))))
-    )
+lines_are h pcs k r is there = grind (arith, hits_are, same_lines, counts_are)
 
 -- what a histogram has is the text of what it counts
 pub profiled : (h : HistText) (pcs : List ℕ) → IsHistogram h pcs → hist_lines h ≡ profile_text h.map pcs
 unfolding profile_text
-profiled h pcs is =
-    ap₂ (λ (t u : Text). t ++ u)
-    (by_place h.map (lines_at h) (λ r. range_lines r (count_by (in_range r) pcs) (λ i. count_by (in_bucket r i) pcs)) 0 (λ k r there. ap (lines_at h) (let e : 0 + k ≡ k = omega arith in e) ∙ lines_are h pcs k r is there))
-    (ap₂ last_lines is.outside is.total)
+profiled h pcs is = grind (arith, by_place, lines_are)
 
 pub profiled_text : {A : Type 0} (view : A → Text) {E : Type 0} (h : HistText) (pcs : List ℕ) (answer : Result A E) → IsHistogram h pcs
     → IfOk answer (λ a. view a ≡ hist_lines h) → IfOk answer (λ a. view a ≡ profile_text h.map pcs)

@@ -1,6 +1,6 @@
 -- The ranges of some rows and of one row more.
-use Rattle.profil_hist.proofs.Words.{◌≡◌, ◌∙◌, ◌∷◌, ◌++◌, List, [], refl, sym, ap, subst, arith, TakesRow, takes-as, RowRefusal, IsLine, Line, range}
-use Rattle.profil_hist.proofs.Words.{skipped, cause_in, ranges_in, row_cause, IsMap, RangeText, GiveRanges, with_line, MapCause}
+use Rattle.profil_hist.proofs.Words.{◌≡◌, ◌∷◌, ◌++◌, List, [], refl, ap, arith, TakesRow, takes-as, RowRefusal, IsLine, Line, range}
+use Rattle.profil_hist.proofs.Words.{skipped, cause_in, ranges_in, row_cause, RangeText, GiveRanges, with_line, MapCause}
 use Rattle.std.specs.Prelude.{Result}
 use Rattle.profil_hist.proofs.Keeping.{kept}
 
@@ -18,7 +18,4 @@ none-read = (refl, record { few = omega arith; few_buckets = omega arith; each =
 
 pub row-taken : (above : List Line) (line : Line) (old new : List RangeText) (result : Result Unit (RowRefusal MapCause)) → IsLine line → GiveRanges above old
     → TakesRow (cause_in old line) (new ≡ with_line old line) result → TakesRow (row_cause above line) (GiveRanges (above ++ line ∷ []) new) result
-row-taken above line old new result good read takes =
-    takes-as (cause_in old line) (row_cause above line) (new ≡ with_line old line) (GiveRanges (above ++ line ∷ []) new) result (ap (λ (rs : List RangeText). cause_in rs line) read.0)
-    (λ none is. (is ∙ ap (λ (rs : List RangeText). with_line rs line) read.0 ∙ sym (one-more above line), subst IsMap (sym is) (kept old line good none read.1)))
-    takes
+row-taken above line old new result good read takes = grind (arith, takes-as, one-more, kept)

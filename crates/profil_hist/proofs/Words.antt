@@ -1,22 +1,21 @@
 -- The words that the proofs of this crate share, passed on from one place. Declares nothing.
-pub use Rattle.csv.specs.Records.{fields_of}
 pub use Rattle.papi_base.proofs.Growing.{number_more}
 pub use Rattle.papi_base.proofs.Steps.{all_at, list_any-map, none_any, passed_over}
 pub use Rattle.profil_hist.specs.Counts.{IsThere, RowText, bucket_in, counts_text, met, no_counts, no_hits, rows_text, with_hit, with_note}
-pub use Rattle.profil_hist.specs.Histograms.{HistText, IsHist, IsHistogram, bucket_at, bucket_count, has_bucket, hist_text, range_count}
-pub use Rattle.profil_hist.specs.Lines.{IsLine, Line, address_in, bad, fits, range, range_line, range_of, skipped}
+pub use Rattle.profil_hist.specs.Histograms.{HistText, IsHist, IsHistogram, bucket_count, has_bucket, hist_text, range_count}
+pub use Rattle.profil_hist.specs.Lines.{IsLine, Line, range, range_line, skipped}
 unfoldable pub use Rattle.profil_hist.specs.Lines.{line_of}
 pub use Rattle.profil_hist.specs.Maps.{cause_in, range_cause, row_cause}
 unfoldable pub use Rattle.profil_hist.specs.Maps.{ranges_in}
 pub use Rattle.profil_hist.specs.Places.{ArePlacesOf, IsOrder, IsPlaceOf, IsPlaced}
-pub use Rattle.profil_hist.specs.Profiles.{bucket_line, count_or_none, hist_lines, hits_or_none, last_lines, lines_at, range_lines}
+pub use Rattle.profil_hist.specs.Profiles.{bucket_line, count_or_none, hist_lines, hits_or_none, lines_at, range_lines}
 unfoldable pub use Rattle.profil_hist.specs.Profiles.{profile_text}
 pub use Rattle.profil_hist.specs.Ranges.{IsMap, IsRange, RangeText, buckets_in_all, end_of, in_bucket, in_range, overlaps}
 pub use Rattle.profil_hist.specs.Steps.{GiveRanges, with_line}
 pub use Rattle.profil_hist.specs.Views.{range_text}
 pub use Rattle.profil_hist.specs.declared.counts.RangeCounts.{RangeCounts}
 pub use Rattle.profil_hist.specs.declared.fault.MapCause.{MapCause}
-pub use Rattle.profil_hist.specs.declared.limits.TheConstants.{MOST_BUCKETS, MOST_BUCKET_ADDRESSES, MOST_RANGES}
+pub use Rattle.profil_hist.specs.declared.limits.TheConstants.{MOST_BUCKETS, MOST_RANGES}
 pub use Rattle.profil_hist.specs.declared.placing.Place.{Place}
 pub use Rattle.profil_hist.specs.declared.placing.RangeStart.{RangeStart}
 pub use Rattle.profil_hist.specs.declared.range.MapRange.{MapRange}
@@ -28,7 +27,6 @@ pub use Rattle.std.proofs.Math.ListN.{length-set, set}
 pub use Rattle.std.proofs.Math.Nat.{div-lt_iff_lt-mul, div-mul-le_self, lt-mul-div-succ, mul-le-mul, mul-le-mul_right, mul_comm}
 pub use Rattle.std.proofs.lemmas.Bool.{and_from, and_parts, cond_both, eqb-true, false_from_ne_true, le-leb, leb-false, leb-true, lt-ltb, ltb-false}
 pub use Rattle.std.proofs.lemmas.Bool.{ltb-true, or_parts}
-pub use Rattle.std.proofs.lemmas.Grind.{elements}
 pub use Rattle.std.proofs.lemmas.Iterator.{YieldsList-from_slice}
 pub use Rattle.std.proofs.lemmas.Iterator.Search.{any_from_yields_List}
 pub use Rattle.std.proofs.lemmas.List.{get_or-map, get_or-replicate, length-map, length-replicate, map-set}
@@ -47,5 +45,5 @@ pub use Rattle.table_rows.proofs.Ranges.{decimal_in-range}
 pub use Rattle.table_rows.proofs.TablesRead.{takes-as}
 pub use Rattle.table_rows.proofs.Texts.{all-append, no_two-more, option_both}
 pub use Rattle.table_rows.specs.Tables.{NoTwo, TakesRow}
-pub use Rattle.table_rows.specs.Texts.{Text, decimal_in, is_name, is_skipped, text_at}
+pub use Rattle.table_rows.specs.Texts.{Text}
 pub use Rattle.table_rows.specs.declared.fault.RowRefusal.{RowRefusal}

@@ -1,5 +1,5 @@
-use Rattle.profil_hist.proofs.Words.{◌≡◌, ◌∙◌, ◌-◌, ◌<◌, ◌≤◌, ℕ, Bool, Some, length, map, get_or, refl, sym, ap, subst, arith, length-map, option_map}
-use Rattle.profil_hist.proofs.Words.{IsPartitionPoint, RangeText, in_range, range_text, RangeStart}
+use Rattle.profil_hist.proofs.Words.{◌≡◌, ◌∙◌, ◌-◌, ◌<◌, ◌≤◌, ℕ, length, map, get_or, refl, sym, subst, arith, length-map}
+use Rattle.profil_hist.proofs.Words.{IsPartitionPoint, range_text, RangeStart}
 use Rattle.profil_hist.proofs.InOrder.{at-range, none-below, none-last, placed-within}
 use Rattle.profil_hist.proofs.placing.range_of.Goals as goal
 
@@ -13,21 +13,13 @@ returns-then-below-eq0 c =
     none-below (map range_text c.args.ranges.now) c.args.order.now c.args.pc any_place c.requires.ordered (subst P none c.count_below-below.ensures.point)
 
 pub offset_bounds-ranges-range : goal.offset_bounds-ranges-range
-offset_bounds-ranges-range c =
-    let lt = placed-within c.args.ranges.now (get_or c.args.order.now (c.count_below-below.result - 1) any_place)
-    (c.requires.ordered.all.right (c.count_below-below.result - 1) any_place (omega arith)) in
-    omega (arith, lt, c.requires.kept.few, length-map c.args.ranges.now range_text)
+offset_bounds-ranges-range c = grind (arith, placed-within, length-map)
 
 pub bounds-ranges-range : goal.bounds-ranges-range
-bounds-ranges-range c =
-    placed-within c.args.ranges.now (get_or c.args.order.now (c.count_below-below.result - 1) any_place) (c.requires.ordered.all.right (c.count_below-below.result - 1) any_place (omega arith))
+bounds-ranges-range c = grind (arith, placed-within)
 
 pub returns-then-holds : goal.returns-then-holds
-returns-then-holds c =
-    let p : RangeStart = get_or c.args.order.now (c.count_below-below.result - 1) any_place in
-    let lt : p.range < length c.args.ranges.now = placed-within c.args.ranges.now p (c.requires.ordered.all.right (c.count_below-below.result - 1) any_place (omega arith)) in
-    let at = at-range c.args.ranges.now p.range c.index-ranges-range.result c.index-ranges-range.is lt in
-    ap (option_map (λ (r : RangeText). in_range r c.args.pc)) at ∙ ap (λ (b : Bool). Some b) (sym c.holds.ensures ∙ c.if-holds.true)
+returns-then-holds c = grind (arith, placed-within, at-range)
 
 pub returns-else-holds : goal.returns-else-holds
 returns-else-holds c =

@@ -1,7 +1,5 @@
-use Rattle.profil_hist.proofs.Words.{◌∙◌, sym, arith, decimal_in-range, MOST_BUCKET_ADDRESSES}
+use Rattle.profil_hist.proofs.Words.{arith, decimal_in-range}
 use Rattle.profil_hist.proofs.row.width_in.Goals as goal
 
 pub overflow_cast-result : goal.overflow_cast-result
-overflow_cast-result c =
-    let r = decimal_in-range 1 MOST_BUCKET_ADDRESSES c.args.text.now c.in_ok-decimal_in.field-0 (sym c.decimal_in.ensures ∙ c.in_ok-decimal_in.was) in
-    omega (arith, r.1)
+overflow_cast-result c = grind (arith, decimal_in-range)

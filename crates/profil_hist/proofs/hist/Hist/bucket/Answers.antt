@@ -1,10 +1,6 @@
-use Rattle.profil_hist.proofs.Words.{◌∙◌, Option, ℕ, ap, is_some, rows_text, HistText, bucket_at, has_bucket}
+use Rattle.profil_hist.proofs.Words.{◌∙◌, Option, ℕ, ap, is_some, rows_text, HistText, has_bucket}
 use Rattle.profil_hist.proofs.Fresh.{bucket-there}
 use Rattle.profil_hist.proofs.hist.Hist.bucket.Goals as goal
-
-pub returns-clause-count : goal.returns-clause-count
-returns-clause-count c =
-    rw c.as_slice.ensures.value at c.bucket_in.ensures ∙ ap (λ (h : HistText). bucket_at h c.args.range c.args.i) c.self.view_is
 
 pub returns-clause-there : goal.returns-clause-there
 returns-clause-there c =
