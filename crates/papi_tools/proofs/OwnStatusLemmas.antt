@@ -1,9 +1,8 @@
 -- Nothing is said on standard error exactly if a tool ends with its own status: tool by tool.
 use Rattle.papi_tools.proofs.Words.{◌≡◌, ◌≢◌, ◌≤◌, ◌+◌, ℕ, Bool, true, false, List, [], ◌∷◌, IfOk, Option, Some, None, Result, Ok, Err, refl, sym}
 use Rattle.papi_tools.proofs.Words.{subst, arith, if◌then◌else◌, list_any, CatalogView, Ended, Bad, Fault, Going, marks_in, given_set, form}
-use Rattle.papi_tools.proofs.Words.{AvailWords, ChooserWords, Command, Run, Profil, Regions, Avail, NativeAvail, EventChooser, Decode, Encode, Soak}
-use Rattle.papi_tools.proofs.Words.{chooser_verdict, decode_verdict, encode_verdict, native_avail_verdict, avail_verdict, profil_verdict}
-use Rattle.papi_tools.proofs.Words.{regions_verdict, run_verdict, soak_verdict, DecodeWords, EncodeWords, NativeAvailWords, ProfilWords, RegionsWords}
+use Rattle.papi_tools.proofs.Words.{AvailWords, ChooserWords, Command}
+use Rattle.papi_tools.proofs.Words.{DecodeWords, EncodeWords, NativeAvailWords, ProfilWords, RegionsWords}
 use Rattle.papi_tools.proofs.Words.{RunWords, SoakWords, IsOwn, StatusIsOwn, choice_said, after_tables, catalog_under, map_under, regions_under}
 use Rattle.papi_tools.proofs.Words.{script_under, unit_under, decoded_in, decoded_said, decoded_with, shown_in, encoded_said, is_bad, is_fault}
 use Rattle.papi_tools.proofs.Words.{mark_lines, marked_said, natives_said, Openings, Verdict, and_then, file_bytes, opened, quiet, presets_said}
@@ -12,6 +11,16 @@ use Rattle.papi_tools.proofs.Words.{ran_verdict, given_of, ran_replies, Says, so
 use Rattle.papi_tools.proofs.Words.{verdict_for, TABLE_BYTES, Refusal, BadWords, CannotRead, Faulty, NoSuchFile, TooLarge, Said, Status}
 use Rattle.tool_output.specs.Choosing as Choosing
 -- tools/make_tools: begin uses
+use Rattle.tool_words.specs.declared.command.Command.TheVariants.{Run, Profil, Regions, Avail, NativeAvail, EventChooser, Decode, Encode, Soak}
+use Rattle.papi_tools.specs.Choosing.{chooser_verdict}
+use Rattle.papi_tools.specs.Decoding.{decode_verdict}
+use Rattle.papi_tools.specs.Encoding.{encode_verdict}
+use Rattle.papi_tools.specs.NativeListing.{native_avail_verdict}
+use Rattle.papi_tools.specs.PresetListing.{avail_verdict}
+use Rattle.papi_tools.specs.Profiling.{profil_verdict}
+use Rattle.papi_tools.specs.RegionCounts.{regions_verdict}
+use Rattle.papi_tools.specs.Run.{run_verdict}
+use Rattle.papi_tools.specs.Soaking.{soak_verdict}
 -- tools/make_tools: end uses
 use Rattle.papi_tools.specs.declared.status.Outcome.TheVariants as outcome
 use Rattle.papi_tools.specs.declared.status.Status.TheVariants as status

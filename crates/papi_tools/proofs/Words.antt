@@ -166,7 +166,6 @@ pub use Rattle.tool_words.specs.Form.{form}
 pub use Rattle.tool_words.specs.declared.avail.AvailWords.{AvailWords}
 pub use Rattle.tool_words.specs.declared.chooser.ChooserWords.{ChooserWords}
 pub use Rattle.tool_words.specs.declared.command.Command.{Command}
-pub use Rattle.tool_words.specs.declared.command.Command.TheVariants.{Avail, Decode, Encode, EventChooser, NativeAvail, Profil, Regions, Run, Soak}
 pub use Rattle.tool_words.specs.declared.decode.DecodeWords.{DecodeWords}
 pub use Rattle.tool_words.specs.declared.encode.EncodeWords.{EncodeWords}
 pub use Rattle.tool_words.specs.declared.native_avail.NativeAvailWords.{NativeAvailWords}

@@ -1,5 +1,11 @@
-use Rattle.papi_tools.proofs.Words.{refl, chooser_verdict, decode_verdict, encode_verdict, native_avail_verdict, avail_verdict, regions_verdict}
+use Rattle.papi_tools.proofs.Words.{refl}
 -- tools/make_tools: begin uses
+use Rattle.papi_tools.specs.Choosing.{chooser_verdict}
+use Rattle.papi_tools.specs.Decoding.{decode_verdict}
+use Rattle.papi_tools.specs.Encoding.{encode_verdict}
+use Rattle.papi_tools.specs.NativeListing.{native_avail_verdict}
+use Rattle.papi_tools.specs.PresetListing.{avail_verdict}
+use Rattle.papi_tools.specs.RegionCounts.{regions_verdict}
 -- tools/make_tools: end uses
 use Rattle.papi_tools.proofs.HoldingLemmas.{same_held}
 use Rattle.papi_tools.proofs.SettlingLemmas.{text_shows}
