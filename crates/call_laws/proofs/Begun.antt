@@ -4,7 +4,7 @@ use Rattle.call_laws.proofs.Words.{filter, length, length-append, replicate, tak
 use Rattle.call_laws.proofs.Words.{if◌then◌else◌, nat_tests, length-take, filter-append, slice_get_within, THREADS, get_front, Text, is_skipped, Open}
 use Rattle.call_laws.proofs.Words.{after_line, after_reading, innermost, is_reading, line_with, open_of, region_line, is_begin, name_of, Refused}
 use Rattle.call_laws.proofs.Words.{lines_from, onto, put_before, above_line, all_ended, none_open, region_scripts, regions_of, RegionCause, NotEnded}
-use Rattle.call_laws.proofs.Words.{RegionCall, RegionLine, AreBegun, Encloses, IsBegun, ScriptsAreBegun, before_reading, depth_after}
+use Rattle.call_laws.proofs.Words.{RegionCall, RegionLine, AreBegun, IsBegun, ScriptsAreBegun, before_reading, depth_after}
 use Rattle.call_laws.proofs.Words.{depth_after_line, depth_with, reading_line}
 use Rattle.std.proofs.Common.{Option, Some, None, Result, Ok, Err, slice_get, slice_set, option_and_then}
 use Rattle.std.specs.Str.Lines as str
@@ -29,51 +29,19 @@ grown : (before ys : List RegionLine) (i : ℕ) (b : RegionLine) → reading_lin
 grown before ys i b e = ap (λ ls. slice_get ls i) (filter-append is_reading before ys) ∙ get_front (filter is_reading before) (filter is_reading ys) i b e
 
 begun_grown : (before ys : List RegionLine) (i : ℕ) (l : RegionLine) → reading_line before i l → IsBegun before i l → IsBegun (before ++ ys) i l
-begun_grown before ys i l e h = record {
-  begin = h.begin;
-  at = grown before ys l.begun h.begin h.at;
-  not_later = h.not_later;
-  begins = h.begins;
-  same_thread = h.same_thread;
-  same_name = h.same_name;
-  innermost = go h.innermost;
-} where
-  now : before_reading before i ≡ before_reading (before ++ ys) i
-  now = sym (before_grown before ys i l e)
-
-  above : before_reading before l.begun ≡ before_reading (before ++ ys) l.begun
-  above = sym (before_grown before ys l.begun h.begin h.at)
-
-  go : ((is_begin l.call ≡ true) × (l.begun ≡ i)) ⊎ Encloses l.thread h.begin (before_reading before l.begun) (before_reading before i)
-      → ((is_begin l.call ≡ true) × (l.begun ≡ i)) ⊎ Encloses l.thread h.begin (before_reading (before ++ ys) l.begun) (before_reading (before ++ ys) i)
-  go (inl own) = inl own
-  go (inr x) = inr (x.0, sym now ∙ x.1 ∙ ap (λ ls. ls ++ h.begin ∷ x.0) above, x.2)
+begun_grown before ys i l e h = grind (arith, grown, before_grown)
 
 either_line : (before : List RegionLine) (l : RegionLine) (i : ℕ) (x : RegionLine) → reading_line (before ++ l ∷ []) i x
     → reading_line before i x ⊎ ((k : ℕ) × (i ≡ readings before + k) × (slice_get (filter is_reading (l ∷ [])) k ≡ Some x))
-either_line before l i x e =
-    get_either (filter is_reading before) (filter is_reading (l ∷ [])) i x (sym (ap (λ ls. slice_get ls i) (filter-append is_reading before (l ∷ []))) ∙ e)
+either_line before l i x e = grind (arith, get_either, filter-append)
 
 -- one line more that reads the counters
 more_reading : (before : List RegionLine) (l : RegionLine) → is_reading l ≡ true → AreBegun before → IsBegun (before ++ l ∷ []) (readings before) l → AreBegun (before ++ l ∷ [])
-more_reading before l reads h own = record { each = λ i x e. go i x (either_line before l i x e) } where
-  last : (i : ℕ) (x : RegionLine) (k : ℕ) → i ≡ readings before + k → slice_get (l ∷ []) k ≡ Some x → IsBegun (before ++ l ∷ []) i x
-  last i x zero p q =
-      let same : l ≡ x = cc in
-      let here : readings before ≡ i = omega (arith, p) in
-      subst (λ y. IsBegun (before ++ l ∷ []) i y) same (subst (λ n. IsBegun (before ++ l ∷ []) n l) here own)
-  last i x (suc k) p q = cc
-
-  go : (i : ℕ) (x : RegionLine) → reading_line before i x ⊎ ((k : ℕ) × (i ≡ readings before + k) × (slice_get (filter is_reading (l ∷ [])) k ≡ Some x)) → IsBegun (before ++ l ∷ []) i x
-  go i x (inl e) = begun_grown before (l ∷ []) i x e (h.each i x e)
-  go i x (inr e) = last i x e.0 e.1 (sym (ap (λ ls. slice_get ls e.0) (filter_reading l [] reads)) ∙ e.2)
+more_reading before l reads h own = grind (arith, either_line, readings, begun_grown, filter_reading)
 
 -- one line more that runs
 more_running : (before : List RegionLine) (l : RegionLine) → is_reading l ≡ false → AreBegun before → AreBegun (before ++ l ∷ [])
-more_running before l runs h = record { each = λ i x e. go i x (either_line before l i x e) } where
-  go : (i : ℕ) (x : RegionLine) → reading_line before i x ⊎ ((k : ℕ) × (i ≡ readings before + k) × (slice_get (filter is_reading (l ∷ [])) k ≡ Some x)) → IsBegun (before ++ l ∷ []) i x
-  go i x (inl e) = begun_grown before (l ∷ []) i x e (h.each i x e)
-  go i x (inr e) = let none : None ≡ Some x = sym (ap (λ ls. slice_get ls e.0) (filter_running l [] runs)) ∙ e.2 in cc
+more_running before l runs h = grind (arith, either_line, readings, begun_grown, filter_running)
 
 -- ---- depths
 
@@ -214,38 +182,13 @@ begin_line before count opens number t name s =
 -- the begin of the innermost open region is that of a line that names it
 begun_by : (before : List RegionLine) (os : List Open) (number t : ℕ) (c : RegionCall) (begun : ℕ) → is_reading (line_with number t (c, begun)) ≡ true → AreOpen before t os
     → Found (innermost os) (name_of c) begun → let l = line_with number t (c, begun) in IsBegun (before ++ l ∷ []) (readings before) l
-begun_by before os number t c begun reads h f =
-    let l : RegionLine = line_with number t (c, begun) in
-    let o : Open = f.0 in
-    let found = h (length os - 1) o f.1 in
-    let b : RegionLine = found.0 in
-    let at : reading_line before begun b = subst (λ i. reading_line before i b) f.3 found.1 in
-    let earlier : begun < length (filter is_reading before) = slice_get_within (filter is_reading before) begun b at in
-    let some : length os - 1 < length os = slice_get_within os (length os - 1) o f.1 in
-    let none : length os - suc (length os - 1) ≡ 0 = omega (arith, some) in
-    let above : before_reading before o.begun ≡ before_reading (before ++ l ∷ []) begun =
-    ap (before_reading before) f.3 ∙ sym (before_grown before (l ∷ []) begun b at) in
-    record {
-      begin = b;
-      at = grown before (l ∷ []) begun b at;
-      not_later = omega (arith, earlier);
-      begins = found.2;
-      same_thread = found.3;
-      same_name = found.4 ∙ f.2;
-      innermost = inr (found.5, own_before before l [] reads ∙ found.6 ∙ ap (λ ls. ls ++ b ∷ found.5) above, found.7 ∙ ap (λ n. Some n) none);
-    }
+begun_by before os number t c begun reads h f = grind (arith, slice_get_within, before_grown, grown, own_before)
 
 -- a line that reads or ends the innermost open region
 inner_line : (before : List RegionLine) (count : ℕ) (opens : List (List Open)) (l : RegionLine) (os : List Open) → Stand before count opens
     → is_reading l ≡ true → IsBegun (before ++ l ∷ []) (readings before) l → AreOpen (before ++ l ∷ []) l.thread os
     → Stand (before ++ l ∷ []) (count + 1) (slice_set opens l.thread os)
-inner_line before count opens l os s reads own left = record {
-  counted =
-      let more = readings_more before l ∙ ap (λ b. readings before + (if b then 1 else 0)) reads in
-      omega (arith, s.counted, more);
-  begun = more_reading before l reads s.begun own;
-  kept = kept_after before l opens os s.kept left;
-}
+inner_line before count opens l os s reads own left = grind (arith, readings_more, readings, more_reading, kept_after)
 
 run_line : (before : List RegionLine) (count : ℕ) (opens : List (List Open)) (number t n begun : ℕ) → Stand before count opens
     → After before count opens (line_with number t (call.Run n, begun))

@@ -1,9 +1,10 @@
 -- What an answer that is read says of the parts that it was read from.
-use Rattle.call_laws.proofs.Words.{◌≡◌, ◌⊎◌, inl, inr, ℕ, Bool, true, false, List, [], ◌∷◌, refl, sym, ◌∙◌, ap, Option, Some, None, Result, Ok, Err}
-use Rattle.call_laws.proofs.Words.{bytes_eq, codes, nat_le, if◌then◌else◌, bytes_eq-Decides, Text, one_number, and_then, words_of, Open, begin_call}
-use Rattle.call_laws.proofs.Words.{begun_name, begun_of, by_script, innermost, innermost_call, innermost_name, region_call, line_of_thread}
-use Rattle.call_laws.proofs.Words.{line_of_words, line_with, one_name, open_of, region_line, run_call, RegionCause, OverLimit, UnknownCall}
-use Rattle.call_laws.proofs.Words.{WrongRegion, RegionCall, RegionLine, MOST_LINES}
+use Rattle.std.proofs.Common.{arith}
+use Rattle.call_laws.proofs.Words.{◌≡◌, ◌⊎◌, inl, inr, ℕ, Bool, true, false, List, [], ◌∷◌, refl, Option, Some, None, Result, Ok, Err}
+use Rattle.call_laws.proofs.Words.{bytes_eq, if◌then◌else◌, bytes_eq-Decides, Text, and_then, Open, begin_call}
+use Rattle.call_laws.proofs.Words.{begun_of, by_script, innermost, innermost_call, region_call, line_of_thread}
+use Rattle.call_laws.proofs.Words.{line_of_words, line_with, open_of, region_line, run_call, RegionCause, UnknownCall}
+use Rattle.call_laws.proofs.Words.{WrongRegion, RegionCall, RegionLine}
 use Rattle.script_lines.specs.Lines.{thread_in}
 use Rattle.region_report.specs.declared.regions.RegionCall.TheVariants as call
 
@@ -43,14 +44,7 @@ abbrev pub OfInnermost : (Text → RegionCall) → List Open → RegionCall × �
 OfInnermost make opens called = (name : Text) × (called.0 ≡ make name) × Found (innermost opens) name called.1
 
 of_innermost : (make : Text → RegionCall) (opens : List Open) (words : List Text) (called : RegionCall × ℕ) → innermost_call make opens words ≡ Ok called → OfInnermost make opens called
-of_innermost make opens words called e =
-    let read = both_read (innermost_name (innermost opens) words) (λ named. Ok (make named.0, named.1)) called e in
-    let named = both_read (one_name words) (λ name. and_then (begun_of (innermost opens) name) (λ begun. Ok (name, begun))) read.0 read.1 in
-    let began = both_read (begun_of (innermost opens) named.0) (λ begun. Ok (named.0, begun)) read.0 named.2 in
-    let made : (make read.0.0, read.0.1) ≡ called = cc read.2 in
-    let same : (named.0, began.0) ≡ read.0 = cc began.2 in
-    let f = found (innermost opens) named.0 began.0 began.1 in
-    (named.0, ap (λ c. c.0) (sym made) ∙ ap (λ c. make c.0) (sym same), (f.0, f.1, f.2, f.3 ∙ ap (λ c. c.1) same ∙ ap (λ c. c.1) made))
+of_innermost make opens words called e = grind (arith, both_read, found)
 
 -- ---- the four calls
 
@@ -66,26 +60,13 @@ Called readings opens called =
     Begins readings called ⊎ (OfInnermost (λ name. call.Read name) opens called ⊎ (OfInnermost (λ name. call.End name) opens called ⊎ Runs called))
 
 begins : (readings : ℕ) (opens : List Open) (words : List Text) (called : RegionCall × ℕ) → begin_call readings opens words ≡ Ok called → Begins readings called
-begins readings opens words called e =
-    let read = both_read (begun_name opens words) (λ name. Ok (call.Begin name, readings)) called e in
-    (read.0, (let same : called ≡ (call.Begin read.0, readings) = cc read.2 in same))
+begins readings opens words called e = grind (arith, both_read)
 
 runs : (readings : ℕ) (words : List Text) (called : RegionCall × ℕ) → run_call readings words ≡ Ok called → Runs called
-runs readings words called e =
-    let read = both_read (by_script (one_number words)) (λ count. Ok (call.Run count, readings)) called e in
-    (read.0, readings, (let same : called ≡ (call.Run read.0, readings) = cc read.2 in same))
+runs readings words called e = grind (arith, both_read)
 
 pub called_is : (readings : ℕ) (opens : List Open) (word : Text) (words : List Text) (called : RegionCall × ℕ) → region_call readings opens word words ≡ Ok called → Called readings opens called
-called_is readings opens word words called e =
-    go (one_of (bytes_eq word (codes "begin")) (bytes_eq word (codes "read")) (bytes_eq word (codes "end")) (bytes_eq word (codes "run"))
-    (begin_call readings opens words) (innermost_call (λ name. call.Read name) opens words) (innermost_call (λ name. call.End name) opens words)
-    (run_call readings words) called e) where
-      go : (begin_call readings opens words ≡ Ok called) ⊎ ((innermost_call (λ name. call.Read name) opens words ≡ Ok called)
-          ⊎ ((innermost_call (λ name. call.End name) opens words ≡ Ok called) ⊎ (run_call readings words ≡ Ok called))) → Called readings opens called
-      go (inl h) = inl (begins readings opens words called h)
-      go (inr (inl h)) = inr (inl (of_innermost (λ name. call.Read name) opens words called h))
-      go (inr (inr (inl h))) = inr (inr (inl (of_innermost (λ name. call.End name) opens words called h)))
-      go (inr (inr (inr h))) = inr (inr (inr (runs readings words called h)))
+called_is readings opens word words called e = grind (arith, one_of, begins, of_innermost, runs)
 
 -- ---- a line
 
@@ -113,6 +94,4 @@ of_words number readings opens (thread ∷ words) line e =
 pub line_is : (number above readings : ℕ) (opens : List (List Open)) (text : Text) (line : RegionLine) → region_line number above readings opens text ≡ Ok line
     → IsCalled number readings opens line
 unfolding region_line
-line_is number above readings opens text line e =
-    of_words number readings opens (words_of text) line
-    (not_refused (nat_le MOST_LINES above) OverLimit (line_of_words number readings opens (words_of text)) line e)
+line_is number above readings opens text line e = grind (arith, of_words, not_refused)

@@ -31,10 +31,7 @@ first_in (xs ∷ xss) chosen e = inl (let first : xs ≡ chosen = cc in first)
 
 -- the first that is listed is the least
 first_is_least : (allowed chosen : List ℕ) → AreMasks allowed → least allowed ≡ Some chosen → IsLeast allowed chosen
-first_is_least allowed chosen masks e = record {
-  is_assignment = of_listed allowed chosen (first_in (assigns allowed) chosen e);
-  comes_first = λ other h. first_before (assigns allowed) chosen other (ordered_assigns allowed) e (listed allowed other masks h);
-}
+first_is_least allowed chosen masks e = grind (arith, of_listed, first_in, assigns, first_before, ordered_assigns, listed)
 
 -- a list that has an assignment has a least one, which is the one that is computed
 pub least_chosen : (allowed : List ℕ) → AreMasks allowed → Assignable allowed → IsLeast allowed (unwrap_or (least allowed) [])

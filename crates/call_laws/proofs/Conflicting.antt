@@ -1,8 +1,8 @@
 -- What calls reply of counters: by the account that follows the history of a thread's calls.
-use Rattle.call_laws.proofs.Words.{ne_eqb, eqb_tells, ◌≡◌, ◌≢◌, ◌<◌, ◌≤◌, ◌^◌, inl, inr, ℕ, zero, suc, Bool, true, false, ◌==◌, List, [], ◌∷◌, length}
+use Rattle.call_laws.proofs.Words.{ne_eqb, eqb_tells, ◌≡◌, ◌≢◌, ◌<◌, ◌≤◌, ◌^◌, inl, inr, ℕ, zero, suc, true, false, ◌==◌, List, [], ◌∷◌, length}
 use Rattle.call_laws.proofs.Words.{take, refl, sym, ap, subst, ◌∙◌, arith, slice_get, Option, Some, None, Ok, option_map, option_map_or, EventRef}
-use Rattle.call_laws.proofs.Words.{Native, Assignable, is_assignable, AreMasks, masks_of, assignable_of, mask_small, not_assignable_of, BookFits}
-use Rattle.call_laws.proofs.Words.{EventFits, IsHeld, Book, natives_of_event, one_more_joins, alone, blamed, blamed_unless, AtRest, Widths}
+use Rattle.call_laws.proofs.Words.{Native, Assignable, AreMasks, masks_of, assignable_of, mask_small, not_assignable_of, BookFits}
+use Rattle.call_laws.proofs.Words.{EventFits, IsHeld, Book, natives_of_event, one_more_joins, alone, AtRest, Widths}
 use Rattle.call_laws.proofs.Words.{cannot_take, clash_with, is_full, natives_with, set_natives, widths_at, Clash, Conflict, by_number, numbered}
 use Rattle.call_laws.proofs.Words.{are_masks, joined_all, conflict_is_least, few_counters, Call, Body, Reply, Account, Kept, IsGood, at, face_of}
 use Rattle.call_laws.proofs.Words.{faces_of, AreFit, IsFit, IsShape, conflict_row, first_of, assigned, done, plain, account_after, account_refusal}
@@ -125,35 +125,11 @@ one_conflict r first second a b = ap (λ (x : Reply). named_in first x.body) (sy
 -- ---- a set that is not multiplexed
 
 taken_is : (natives : List Native) (r : Reply) → r ≡ plain code.Ok → Assignable (masks_of natives) → IsByCounters natives r
-taken_is natives r e fits = record {
-  taken = (λ q. fits, λ h. e);
-  conflicts = ((λ (clash, q). no_conflict r clash e q), λ no. absurd (no fits));
-  names = λ clash q. no_conflict r clash e q;
-}
+taken_is natives r e fits = grind (arith, no_conflict)
 
 by_counters : (book : Book) (e : EventRef) (s : AtRest) (r : Reply) → All Small (natives_with book e s) → is_full book e s ≡ false → s.slice ≡ None
     → r ≡ replied (clash_with book e s) → IsByCounters (natives_with book e s) r
-by_counters book e s r small room none is = go (is_assignable (masks_of natives)) refl where
-  natives : List Native
-  natives = natives_with book e s
-
-  masks : AreMasks (masks_of natives)
-  masks = are_masks 32 natives (omega arith) small
-
-  clash_is : (b : Bool) → is_assignable (masks_of natives) ≡ b → clash_with book e s ≡ blamed_unless b natives
-  clash_is b q = rw (none, q) refl
-
-  go : (b : Bool) → is_assignable (masks_of natives) ≡ b → IsByCounters natives r
-  go true q = taken_is natives r (is ∙ ap replied (clash_is true q)) (assignable_of (masks_of natives) masks q)
-  go false q =
-      let isnt : Assignable (masks_of natives) → ⊥ = not_assignable_of (masks_of natives) masks q in
-      let named : r ≡ conflict (blamed natives) = is ∙ ap replied (clash_is false q) in
-      record {
-        taken = ((λ ok. no_conflict r (blamed natives) ok named), λ fits. absurd (isnt fits));
-        conflicts = ((λ h. isnt), λ no. (blamed natives, named));
-        names = λ clash told.
-            conflict_is_least book e s clash small room none (clash_is false q ∙ ap Some (one_conflict r (blamed natives) clash named told));
-      }
+by_counters book e s r small room none is = grind (arith, are_masks, taken_is, assignable_of, not_assignable_of, no_conflict, conflict_is_least, one_conflict)
 
 pub conflicts_by_counters : ConflictsByCounters
 conflicts_by_counters t calls k e over open_to none =

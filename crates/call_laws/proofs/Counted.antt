@@ -1,7 +1,7 @@
 -- What a set that was never stopped shows of the counts up to a position.
-use Rattle.call_laws.proofs.Words.{◌≡◌, ◌-◌, ℕ, zero, suc, pos, List, [], ◌∷◌, map, take, sum, refl, ◌∙◌, ap, ap₂, arith, Option, Some, None}
-use Rattle.call_laws.proofs.Words.{weight_of, EventRef, Native, Occ, Book, event_value, natives_of_event, rule_of_event, rule_value, AtRest, new_set}
-use Rattle.call_laws.proofs.Words.{along, count, measured, values_of, count_between, value_at, weights}
+use Rattle.call_laws.proofs.Words.{◌≡◌, ℕ, zero, suc, pos, List, [], ◌∷◌, map, take, refl, ap, ap₂, arith, Option, Some}
+use Rattle.call_laws.proofs.Words.{EventRef, Native, Occ, Book, event_value, natives_of_event, rule_of_event, rule_value, AtRest, new_set}
+use Rattle.call_laws.proofs.Words.{along, count, values_of, count_between, value_at}
 use Rattle.call_laws.proofs.Opened.{counting_set, domain_with, events_with, slice_with, with_events}
 
 along_take : (weigh : Option Occ → Occ → ℕ) (before : Option Occ) (os : List Occ) (q : ℕ) → along weigh before (take q os) ≡ take q (along weigh before os)
@@ -10,10 +10,7 @@ along_take weigh before [] (suc q) = refl
 along_take weigh before (o ∷ os) (suc q) = ap (λ ws. weigh before o ∷ ws) (along_take weigh (Some o) os q)
 
 counted : (tape : List Occ) (q : ℕ) (s : AtRest) (n : Native) → s.domain ≡ new_set.domain → count (take q tape) (counting_set s) n ≡ count_between tape 0 q n
-counted tape q s n e =
-    ap (λ d. sum (along (weight_of n d) None (take q tape))) e
-    ∙ ap sum (along_take (weight_of n new_set.domain) None tape q)
-    ∙ ap (λ k. sum (take k (weights tape n))) (let same : q ≡ q - 0 = omega arith in same)
+counted tape q s n e = grind (arith, along_take)
 
 same_counts : (f g : Native → ℕ) → ((n : Native) → f n ≡ g n) → (ns : List Native) → map (λ n. pos (f n)) ns ≡ map (λ n. pos (g n)) ns
 same_counts f g e [] = refl
@@ -29,8 +26,4 @@ same_values book f g e (x ∷ xs) = ap₂ (λ v vs. v ∷ vs) (same_value book f
 -- the set of the events shows their values up to the position
 pub shown : (book : Book) (tape : List Occ) (q : ℕ) (events : List EventRef)
     → values_of book (take q tape) (counting_set (with_events book new_set events)) ≡ map (value_at book tape q) events
-shown book tape q events =
-    let s : AtRest = with_events book new_set events in
-    ap (λ o. map (event_value book (measured o book (take q tape) (counting_set s))) s.events) (slice_with book new_set events)
-    ∙ ap (λ xs. map (event_value book (count (take q tape) (counting_set s))) xs) (events_with book new_set events)
-    ∙ same_values book (count (take q tape) (counting_set s)) (count_between tape 0 q) (λ n. counted tape q s n (domain_with book new_set events)) events
+shown book tape q events = grind (arith, with_events, counting_set, slice_with, events_with, same_values, counted, domain_with)

@@ -25,9 +25,7 @@ above_least None stamp h = omega arith
 above_least (Some last) stamp h = let less = ltb-true last stamp h in omega (arith, less)
 
 given_one : (st : LineStart) (line : Line) (o : Occ) → IsStart st → IsLine st o line → IsGiven (least_stamp st.last) o
-given_one st line o s l =
-    let fits = stamp-fits st line o s l in
-    record { late = above_least st.last o.stamp fits.0; stamp = fits.1; least = l.fit.least; greatest = l.fit.greatest }
+given_one st line o s l = grind (arith, stamp-fits, above_least)
 
 -- from where a line begins
 given_from : (e : Ending) (st : LineStart) (lines : List Line) → IsStart st → AllGiven (least_stamp st.last) (occurs_from e st lines).rest

@@ -1,5 +1,5 @@
 -- Each reading shows the values up to the position of its line: by induction on the lines.
-use Rattle.call_laws.proofs.Words.{◌≡◌, ◌≢◌, ◌+◌, ◌-◌, ◌<◌, ◌==◌, ◌||◌, min, ℕ, Bool, true, false, List, [], ◌∷◌, ◌++◌, map, drop, take, length}
+use Rattle.call_laws.proofs.Words.{◌≡◌, ◌+◌, ◌-◌, ◌<◌, ◌==◌, ◌||◌, min, ℕ, Bool, true, false, List, [], ◌∷◌, ◌++◌, map, drop, take, length}
 use Rattle.call_laws.proofs.Words.{slice_index_or, if◌then◌else◌, range_with_len, take-add, nat_tests, All-head, All-tail, or_right, Coming, Dry}
 use Rattle.call_laws.proofs.Words.{Mark, MOST_SETS, THREADS, EventRef, Occ, Book, AtRest, Widths, new_set, has_lines, count_of, reads_call}
 use Rattle.call_laws.proofs.Words.{RegionCall, RegionLine, Account, opening, account_after, step, values_of, Setting, World, account_at}
@@ -32,10 +32,7 @@ unmoved t s asked tape mark = ap (λ k. counting t s (min k (length tape)) tape 
 
 -- the next n occurrences, or all that are left
 next : (asked n : ℕ) (tape : List Occ) → let q = min asked (length tape) in q + min n (length (drop q tape)) ≡ min (asked + n) (length tape)
-next asked n tape =
-    let q : ℕ = min asked (length tape) in
-    let left : length (drop q tape) ≡ length tape - q = length-drop q tape in
-    grind (arith, left)
+next asked n tape = grind (arith, length-drop)
 
 line_account : (book : Book) (shape : Widths) (t : ℕ) (s : AtRest) (asked : ℕ) (tape : List Occ) (mark : Mark) (c : RegionCall) → Moved book shape t s asked tape mark c
 line_account book shape t s asked tape mark (region.Run n) =
@@ -66,8 +63,7 @@ asked_own : (u : ℕ) (before : List RegionLine) (l : RegionLine) → (l.thread 
 asked_own u before l e = asked_with u before l ∙ ap (λ b. asked_in u before + (if b then count_of l.call else 0)) e
 
 asked_other : (u : ℕ) (before : List RegionLine) (l : RegionLine) → (l.thread == u) ≡ false → asked_in u (before ++ l ∷ []) ≡ asked_in u before
-asked_other u before l e =
-    asked_with u before l ∙ ap (λ b. asked_in u before + (if b then count_of l.call else 0)) e ∙ (let same : asked_in u before + 0 ≡ asked_in u before = omega arith in same)
+asked_other u before l e = grind (arith, asked_with)
 
 -- the account of a thread counts the events and stands at the position after these lines
 abbrev StandsAt : Book → List Coming → List EventRef → List RegionLine → List Account → ℕ → Type 0
@@ -96,15 +92,7 @@ own_line at streams events before accounts l stands =
 
 other_line : (at : Setting) (streams : List Coming) (events : List EventRef) (before : List RegionLine) (accounts : List Account) (l : RegionLine) (u : ℕ)
     → (l.thread == u) ≡ false → StandsAt at.book streams events before accounts u → StandsAt at.book streams events (before ++ l ∷ []) (after_line at accounts l) u
-other_line at streams events before accounts l u q stands =
-    let tape : List Occ = stream_of streams u in
-    let s : AtRest = with_events at.book new_set events in
-    let apart : u ≢ l.thread = λ same. grind (arith, nat_tests, q, same) in (
-      stands.0,
-      set_other accounts l.thread u (counting u s (position tape u before) tape stands.0) (step at.book at.shape (account_at accounts l.thread) (call_on_set l.call)).account
-          stands.1 apart
-          ∙ ap (λ k. Some (counting u s (min k (length tape)) tape stands.0)) (sym (asked_other u before l q)),
-    )
+other_line at streams events before accounts l u q stands = grind (arith, with_events, nat_tests, set_other, counting, asked_other)
 
 any_line : (at : Setting) (streams : List Coming) (events : List EventRef) (before : List RegionLine) (accounts : List Account) (l : RegionLine) (u : ℕ) (b : Bool)
     → (l.thread == u) ≡ b → StandsAt at.book streams events before accounts u → StandsAt at.book streams events (before ++ l ∷ []) (after_line at accounts l) u
@@ -123,14 +111,7 @@ stands_on at streams events lines before accounts l stands =
 line_told : (at : Setting) (streams : List Coming) (events : List EventRef) (before : List RegionLine) (accounts : List Account) (l : RegionLine)
     → StandsAt at.book streams events before accounts l.thread
     → values_in (step at.book at.shape (account_at accounts l.thread) (call_on_set l.call)).reply.body ≡ reading_at at.book streams events before l
-line_told at streams events before accounts l stands =
-    let t : ℕ = l.thread in
-    let tape : List Occ = stream_of streams t in
-    let s : AtRest = with_events at.book new_set events in
-    let q : ℕ = position tape t before in
-    ap (λ a. values_in (step at.book at.shape a (call_on_set l.call)).reply.body) (found accounts t (counting t s q tape stands.0) stands.1)
-    ∙ line_values at.book at.shape t s q tape stands.0 l.call
-    ∙ ap (λ vs. if reads_call l.call then vs ∷ [] else []) (shown at.book tape q events)
+line_told at streams events before accounts l stands = grind (arith, with_events, found, counting, line_values, shown)
 
 -- a thread of a line has lines
 has_own : (before : List RegionLine) (l : RegionLine) (ys : List RegionLine) → has_lines (before ++ l ∷ ys) l.thread ≡ true

@@ -1,4 +1,5 @@
 -- The lines of the script, one by one.
+use Rattle.std.proofs.Common.{arith}
 use Rattle.call_laws.proofs.Words.{◌≡◌, ◌+◌, ℕ, Bool, true, false, List, [], ◌∷◌, ◌++◌, map, refl, sym, ◌∙◌, ap, ap₂, Ok, if◌then◌else◌, flat_map}
 use Rattle.call_laws.proofs.Words.{range_with_len, map-append, THREADS, EventRef, Text, Written, has_lines, RegionCall, RegionLine, Asked, Call, Line}
 use Rattle.call_laws.proofs.Words.{call_line, call_on_set, line_of, opening_calls, opening_lines, LooksUp, ScriptIsLookedUp, line_by}
@@ -45,11 +46,7 @@ adds (e ∷ events) = ap (λ xs. asks_call (call.Add 0 (Ok e)) ∷ xs) (adds eve
 
 opening : (ask : Written → Asked) (texts : List Text) (events : List EventRef) → LooksUp ask texts events
     → map (on_session ask) (calls.opening_calls texts) ≡ map asks_call (opening_calls events)
-opening ask texts events h =
-    ap₂ (λ x xs. x ∷ xs) h.create
-    (map-append (on_session ask) (map (λ text. call.Add 0 text) texts) (call.Start 0 ∷ [])
-    ∙ ap₂ (λ xs x. xs ++ x ∷ []) (asks_adds ask texts ∙ h.add ∙ sym (adds events)) h.start
-    ∙ sym (map-append asks_call (map (λ e. call.Add 0 (Ok e)) events) (call.Start 0 ∷ [])))
+opening ask texts events h = grind (arith, map-append, asks_adds, adds)
 
 thread_opening : (ask : Written → Asked) (texts : List Text) (events : List EventRef) → LooksUp ask texts events → (t : ℕ) (b : Bool)
     → map (asked_line ask) (if b then map (calls.asks t) (calls.opening_calls texts) else []) ≡ (if b then map (line_of t) (opening_calls events) else [])

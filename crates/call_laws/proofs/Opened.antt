@@ -2,9 +2,9 @@
 use Rattle.call_laws.proofs.Words.{◌≡◌, ◌≢◌, ◌+◌, ◌-◌, ◌<◌, ◌≤◌, ◌==◌, ℕ, zero, suc, Bool, true, false, not, List, [], ◌∷◌, ◌++◌, map, drop, take}
 use Rattle.call_laws.proofs.Words.{length, replicate, pos, refl, sym, ◌∙◌, ap, ap₂, subst, arith, append_assoc, append-nil, Option, Some, None, Ok}
 use Rattle.call_laws.proofs.Words.{if◌then◌else◌, option_map, flat_map, list_any, range_with_len, nat_tests, Mark, Ecount, Einval, Eisrun, MOST_SETS}
-use Rattle.call_laws.proofs.Words.{EventRef, Occ, Book, add_refusal, AtRest, Widths, cannot_take, clash_with, is_full, new_set, with_event, Clash}
-use Rattle.call_laws.proofs.Words.{Plain, Conflict, has_lines, RegionLine, Call, Line, Account, Kept, opening, component_runs, faces_of, runs_on}
-use Rattle.call_laws.proofs.Words.{conflict_row, first_of, has_events, row, account_after, account_refusal, performed, step, unless, calls_asked}
+use Rattle.call_laws.proofs.Words.{EventRef, Occ, Book, add_refusal, AtRest, Widths, new_set, with_event, Clash}
+use Rattle.call_laws.proofs.Words.{Plain, Conflict, has_lines, RegionLine, Call, Line, Account, Kept, opening, faces_of, runs_on}
+use Rattle.call_laws.proofs.Words.{conflict_row, first_of, row, account_after, account_refusal, performed, step, unless, calls_asked}
 use Rattle.call_laws.proofs.Words.{calls_at, TakesAll, line_of, opening_calls, opening_lines}
 use Rattle.call_type.specs.declared.call.Call.TheVariants as call
 
@@ -124,8 +124,7 @@ add_rows false false None e = refl
 
 added : (book : Book) (shape : Widths) (t : ℕ) (s : AtRest) (rest : List Occ) (mark : Mark) (e : EventRef) → add_refusal book e s ≡ None
     → (step book shape (holding t s rest mark) (call.Add 0 (Ok e))).account ≡ holding t (with_event book e s) rest mark
-added book shape t s rest mark e h =
-    done book shape (holding t s rest mark) (call.Add 0 (Ok e)) (add_rows (cannot_take book e s) (is_full book e s) (clash_with book e s) h)
+added book shape t s rest mark e h = grind (arith, done, add_rows)
 
 start_rows : (b c : Bool) → b ≡ false → c ≡ false → first_of (row b Eisrun ∷ row c Einval ∷ []) ≡ None
 start_rows true c e f = cc
@@ -141,9 +140,7 @@ some_events n h = let e : (n == 0) ≡ false = grind (arith, nat_tests, h) in ap
 
 started : (book : Book) (shape : Widths) (t : ℕ) (s : AtRest) (rest : List Occ) (mark : Mark) → 0 < length s.events
     → (step book shape (holding t s rest mark) (call.Start 0)).account ≡ counting t s 0 rest mark
-started book shape t s rest mark h =
-    done book shape (holding t s rest mark) (call.Start 0)
-    (start_rows (component_runs (faces_of (holding t s rest mark).sets) 0) (not (has_events s)) (none_runs s s.component) (some_events (length s.events) h))
+started book shape t s rest mark h = grind (arith, done, start_rows, none_runs, some_events)
 
 all_added : (book : Book) (shape : Widths) (t : ℕ) (s : AtRest) (rest : List Occ) (mark : Mark) (events : List EventRef) → TakesAll book s events
     → 0 < length (with_events book s events).events

@@ -1,6 +1,7 @@
 -- The laws of threads and regions over streams of any bytes.
-use Rattle.call_laws.proofs.Words.{◌≡◌, ◌≤◌, ℕ, List, ◌++◌, length, sym, ap₂, subst, ◌∙◌, Some, take-append-drop, All-weaker, Tape, LARGEST_AMOUNT}
-use Rattle.call_laws.proofs.Words.{Call, Kept, IsWithin, Rises, at, counts_per_tick, one_group_counts, each_at, rises-front, Thread, answered, taken}
+use Rattle.std.proofs.Common.{arith}
+use Rattle.call_laws.proofs.Words.{◌≡◌, ◌≤◌, ℕ, List, length, sym, subst, Some, take-append-drop, All-weaker, Tape, LARGEST_AMOUNT}
+use Rattle.call_laws.proofs.Words.{Call, Kept, IsWithin, Rises, at, counts_per_tick, one_group_counts, each_at, rises-front, Thread}
 use Rattle.call_laws.proofs.Words.{NativesAreExactOverTape, OneGroupOverTape, OneNoteOverTape, PastRises, StreamStays, TurnsCountPerTick, account_of}
 use Rattle.call_laws.proofs.Words.{said, thread_over}
 use Rattle.std.specs.Prelude.{All}
@@ -16,9 +17,7 @@ small tape = All-weaker (λ o. (1 ≤ o.amount) × (o.amount ≤ LARGEST_AMOUNT)
 -- ---- threads
 
 pub stream_stays : StreamStays
-stream_stays t calls =
-    let h = thread_follows t calls in
-    ap₂ ◌++◌ h.past_is h.rest_is ∙ take-append-drop (taken (answered t calls)) t.stream
+stream_stays t calls = grind (arith, thread_follows, take-append-drop)
 
 pub past_rises : PastRises
 past_rises book shape number tape calls =

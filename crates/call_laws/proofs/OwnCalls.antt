@@ -1,4 +1,5 @@
 -- What a script of several threads replies and tells, by each thread's own calls.
+use Rattle.std.proofs.Common.{arith}
 use Rattle.call_laws.proofs.Words.{◌≡◌, ◌<◌, ℕ, zero, suc, List, [], ◌∷◌, ap, ◌∙◌, slice_get, take, Some, option_map, Coming, THREADS, Account}
 use Rattle.call_laws.proofs.Words.{account_after, step, LineTold, Setting, World, account_at, calls_at, opening_world, told, turn_of, world_after}
 use Rattle.call_laws.proofs.Words.{world_after_line, Line, account_by_thread, found, notes_by_thread, opens_by_thread, begun, NotesAreOfThreads}
@@ -18,9 +19,7 @@ told_at at w (x ∷ lines) (suc i) l e = told_at at (world_after_line at w x) li
 -- a thread's account after some lines
 account_in : (at : Setting) (streams : List Coming) (lines : List Line) (t : ℕ) → t < THREADS
     → account_at (world_after at (opening_world streams) lines).accounts t ≡ account_after at.book at.shape (begun (thread_in at streams t)) (calls_at t lines)
-account_in at streams lines t below =
-    found (world_after at (opening_world streams) lines).accounts t (account_after at.book at.shape (begun (thread_in at streams t)) (calls_at t lines))
-    (account_by_thread at (opening_world streams) lines t (begun (thread_in at streams t)) (opens_by_thread streams t below))
+account_in at streams lines t below = grind (arith, found, account_by_thread, opens_by_thread)
 
 pub replies_are_of_threads : RepliesAreOfThreads
 replies_are_of_threads at streams lines i t c below e =

@@ -1,8 +1,8 @@
 -- A set is there exactly if the history says so.
-use Rattle.call_laws.proofs.Words.{arith, ◌≡◌, ◌≢◌, ℕ, zero, suc, inl, inr, false, List, [], ◌∷◌, refl, sym, ap, subst, ◌∙◌, slice_set, Option, Some}
+use Rattle.call_laws.proofs.Words.{arith, ◌≡◌, ◌≢◌, ℕ, zero, suc, false, List, [], ◌∷◌, refl, sym, ◌∙◌, slice_set, Option, Some}
 use Rattle.call_laws.proofs.Words.{None, list_all, eqb_tells, and-false, MOST_SETS, Book, Refusal, Widths, Call, Reply, Account, Kept, changed_at}
 use Rattle.call_laws.proofs.Words.{changed_by, kept_after, new_kept, sets_after, at, change, faces_of, free, rows, plain, refused, reply_over}
-use Rattle.call_laws.proofs.Words.{sight_of_kept, account_after, account_refusal, performed, replies_to, step, unless, performed_sets, row_fails}
+use Rattle.call_laws.proofs.Words.{sight_of_kept, account_after, account_refusal, performed, replies_to, step, performed_sets, row_fails}
 use Rattle.call_laws.proofs.Words.{is_there, set_destroyed, CallReply, Thread, answered, begun, history, is_number}
 use Rattle.std.specs.Prelude.{is_some, replicate}
 use Rattle.papi_base.specs.declared.code.Code.TheVariants as code
@@ -46,18 +46,12 @@ kept_there log c r before after k quiet e same h = rw (quiet_makes c r k quiet, 
 made_there : (log : List CallReply) (x : CallReply) (sets : List (Option Kept)) (s : Kept) (k : ℕ) → x.call ≡ call.Create
     → x.reply.body ≡ body.SetNumber (free sets) → list_all (λ place. is_some place) (faces_of sets) ≡ false
     → is_there k log ≡ is_some (at sets k) → is_there k (x ∷ log) ≡ is_some (at (slice_set sets (free sets) (Some s)) k)
-made_there log x sets s k c r room h = elim (eqb_tells k (free sets)) [
-  | inl e ↦ rw (r, e.1, is_number-same (free sets)) (sym (ap is_some (put_free sets s (free sets) refl room)))
-  | inr e ↦ rw (r, c, is_number-other k (free sets) e.1) (h ∙ sym (ap is_some (at-put_other sets (free sets) k (Some s) e.1)))
-]
+made_there log x sets s k c r room h = grind (arith, eqb_tells, is_number-same, put_free, is_number-other, at-put_other)
 
 -- a set that is destroyed
 gone_there : (log : List CallReply) (j : ℕ) (sets : List (Option Kept)) (k : ℕ)
     → is_there k log ≡ is_some (at sets k) → is_there k (said (call.Destroy j) (plain code.Ok) ∷ log) ≡ is_some (at (slice_set sets j None) k)
-gone_there log j sets k h = elim (eqb_tells k j) [
-  | inl e ↦ rw (e.1, is_number-same j) (sym (ap is_some (at-put_none sets j)))
-  | inr e ↦ rw (is_number-other k j e.1) (h ∙ sym (ap is_some (at-put_other sets j k None e.1)))
-]
+gone_there log j sets k h = grind (arith, eqb_tells, is_number-same, at-put_none, is_number-other, at-put_other)
 
 -- the places that are taken are those of the sets that are there
 abbrev AreThere : List CallReply → Account → Type 0
@@ -67,11 +61,7 @@ other_there : (book : Book) (shape : Widths) (log : List CallReply) (a : Account
     → (performed book shape a c).reply ≡ reply_over book (sight_of_kept book shape a.past) a.sets c
     → (o : Option ℕ) → sets_after new_kept (kept_after book a.past) c a.sets ≡ changed_at (kept_after book a.past c) o a.sets
     → AreThere log a → AreThere (said c (performed book shape a c).reply ∷ log) (performed book shape a c).account
-other_there book shape log a c other kept r o sets h k =
-    let quiet = quiet_reply book (sight_of_kept book shape a.past) a.sets c other in
-    kept_there log c (performed book shape a c).reply a.sets (performed book shape a c).account.sets k
-    (subst (λ (x : Reply). IsQuiet x.body) (sym r) quiet) kept
-    (ap (λ ss. is_some (at ss k)) (performed_sets book shape a c ∙ sets) ∙ changed_taken (kept_after book a.past c) o a.sets k) (h k)
+other_there book shape log a c other kept r o sets h k = grind (arith, quiet_reply, kept_there, IsQuiet, performed_sets, changed_taken)
 
 performed_there : (book : Book) (shape : Widths) (log : List CallReply) (a : Account) (c : Call) → account_refusal book shape a c ≡ None
     → AreThere log a → AreThere (said c (performed book shape a c).reply ∷ log) (performed book shape a c).account
@@ -92,11 +82,7 @@ refused_there book shape log a c r q h k = kept_there log c (refused r) a.sets a
 
 step_there : (book : Book) (shape : Widths) (log : List CallReply) (a : Account) (c : Call)
     → AreThere log a → AreThere (said c (step book shape a c).reply ∷ log) (step book shape a c).account
-step_there book shape log a c h = go (account_refusal book shape a c) refl where
-  go : (o : Option Refusal) → account_refusal book shape a c ≡ o
-      → AreThere (said c (unless o a (performed book shape a c)).reply ∷ log) (unless o a (performed book shape a c)).account
-  go (Some r) q = refused_there book shape log a c r q h
-  go None q = performed_there book shape log a c q h
+step_there book shape log a c h = grind (arith, said, refused_there, performed_there)
 
 -- ---- all calls
 

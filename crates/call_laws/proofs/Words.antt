@@ -5,8 +5,7 @@ pub use Rattle.call_laws.specs.Exact.{NativesAreExact}
 pub use Rattle.call_laws.specs.History.{CallReply, OccAfter, Thread, answered, begun, history, is_number, is_ok, makes, newly_taken, placed_after}
 pub use Rattle.call_laws.specs.History.{reply_after, set_made, taken, taken_by}
 pub use Rattle.call_laws.specs.Measures.{begins, count_over, ends, estimate_in, estimate_over, measure_over, values_over}
-pub use Rattle.call_laws.specs.Nesting.{AreBegun, Encloses, IsBegun, ScriptsAreBegun, before_reading, depth_after, depth_after_line, depth_with}
-pub use Rattle.call_laws.specs.Nesting.{reading_line}
+pub use Rattle.call_laws.specs.Nesting.{AreBegun, IsBegun, ScriptsAreBegun, before_reading, depth_after, depth_after_line, depth_with, reading_line}
 pub use Rattle.call_laws.specs.OfThreads.{NotesAreOfThreads, RepliesAreOfThreads, thread_in}
 pub use Rattle.call_laws.specs.Passings.{Moment, NotesAreThePassings, OneNoteForEach, first_native, is_note_of, moment, note_of, notes_of_call}
 pub use Rattle.call_laws.specs.Passings.{notes_of_occ, notes_of_run, notes_of_set, passes, passing_indexes, passings, passings_since, reaches_more}
@@ -25,7 +24,7 @@ pub use Rattle.counter_alloc.proofs.Fitting.{assignable_of, is_assignable_true, 
 pub use Rattle.counter_alloc.proofs.Listed.{In, Ordered, listed, of_listed, ordered_assigns}
 pub use Rattle.counter_alloc.specs.Assignments.{Assignable, AtOrBefore, IsLeast}
 unfoldable pub use Rattle.counter_alloc.specs.BlameOf.{blame_of, deficient_sets, shortest_prefix}
-pub use Rattle.counter_alloc.specs.Listing.{IsBefore, is_assignable, least}
+pub use Rattle.counter_alloc.specs.Listing.{IsBefore, least}
 unfoldable pub use Rattle.counter_alloc.specs.Listing.{assigns, choices, members}
 pub use Rattle.counter_alloc.specs.Masks.{AreMasks, masks_of}
 pub use Rattle.event_sets.proofs.Agreeing.{by_number, numbered}
@@ -35,7 +34,7 @@ pub use Rattle.event_sets.proofs.LeastClash.{conflict_is_least}
 pub use Rattle.event_sets.proofs.Removed.{removed_all}
 pub use Rattle.event_sets.proofs.Sound.{few_counters}
 pub use Rattle.event_sets.specs.Adding.{add_refusal}
-pub use Rattle.event_sets.specs.Assigning.{alone, blamed, blamed_unless}
+pub use Rattle.event_sets.specs.Assigning.{alone}
 pub use Rattle.event_sets.specs.AtRest.{AtRest, Widths, cannot_take, clash_with, is_bad_threshold, is_full, natives_with, new_set, place_of}
 pub use Rattle.event_sets.specs.AtRest.{set_natives, widths_at, with_event}
 pub use Rattle.event_sets.specs.declared.refusal.Clash.{Clash}
@@ -71,9 +70,8 @@ pub use Rattle.postfix_rules.specs.declared.token.Operator.{Operator}
 pub use Rattle.region_report.proofs.Counted.{not_reading, reading}
 pub use Rattle.region_report.specs.Calls.{has_lines}
 pub use Rattle.region_report.specs.Kept.{count_of}
-pub use Rattle.region_report.specs.Lines.{Open, after_line, after_reading, begin_call, begun_name, begun_of, by_script, innermost, innermost_call}
-pub use Rattle.region_report.specs.Lines.{innermost_name, is_reading, line_of_thread, line_of_words, line_with, one_name, open_of, reads_call}
-pub use Rattle.region_report.specs.Lines.{region_call, run_call}
+pub use Rattle.region_report.specs.Lines.{Open, after_line, after_reading, begin_call, begun_of, by_script, innermost, innermost_call, is_reading}
+pub use Rattle.region_report.specs.Lines.{line_of_thread, line_of_words, line_with, open_of, reads_call, region_call, run_call}
 unfoldable pub use Rattle.region_report.specs.Lines.{region_line}
 pub use Rattle.region_report.specs.Reports.{is_begin, name_of}
 unfoldable pub use Rattle.region_report.specs.Reports.{report_text}
@@ -82,18 +80,15 @@ unfoldable pub use Rattle.region_report.specs.Scripts.{regions_of}
 pub use Rattle.region_report.specs.Spans.{difference, span}
 unfoldable pub use Rattle.region_report.specs.Spans.{pairwise, spans_from}
 pub use Rattle.region_report.specs.declared.fault.RegionCause.{RegionCause}
-pub use Rattle.region_report.specs.declared.fault.RegionCause.TheVariants.{NotEnded, OverLimit, UnknownCall, WrongRegion}
+pub use Rattle.region_report.specs.declared.fault.RegionCause.TheVariants.{NotEnded, UnknownCall, WrongRegion}
 pub use Rattle.region_report.specs.declared.regions.RegionCall.{RegionCall}
 pub use Rattle.region_report.specs.declared.regions.RegionLine.{RegionLine}
-pub use Rattle.region_report.specs.declared.regions.TheConstants.{MOST_LINES}
 pub use Rattle.region_report.specs.declared.reports.Reading.{Reading}
 pub use Rattle.script_lines.specs.Answers.{and_then}
-pub use Rattle.script_lines.specs.Arguments.{one_number}
 pub use Rattle.script_lines.specs.ByLine.{Refused, onto, put_before}
 unfoldable pub use Rattle.script_lines.specs.ByLine.{lines_from}
 pub use Rattle.script_lines.specs.Calls.{Written}
 pub use Rattle.script_lines.specs.Lines.{is_skipped}
-pub use Rattle.script_lines.specs.Words.{words_of}
 pub use Rattle.session_model.proofs.ByThread.{account_by_thread, found, notes_by_thread, opens_by_thread}
 pub use Rattle.session_model.proofs.Counted.{places_stay}
 pub use Rattle.session_model.proofs.CountsInTurns.{counts_per_tick, last-append, one_group_counts, weight_small}
@@ -109,9 +104,9 @@ pub use Rattle.session_model.specs.Changes.{changed_at, changed_by, kept_after, 
 pub use Rattle.session_model.specs.Conditions.{IsGood}
 pub use Rattle.session_model.specs.Counts.{along, count, in_window, weighed}
 pub use Rattle.session_model.specs.Estimates.{estimated, total, turns_of}
-pub use Rattle.session_model.specs.Faces.{Face, at, change, component_runs, face_of, faces_of, free, is_absent, runs_on}
+pub use Rattle.session_model.specs.Faces.{Face, at, change, face_of, faces_of, free, is_absent, runs_on}
 pub use Rattle.session_model.specs.Fitness.{AreFit, IsFit, IsShape}
-pub use Rattle.session_model.specs.Refusals.{conflict_of, conflict_row, first_of, has_events, row, rows}
+pub use Rattle.session_model.specs.Refusals.{conflict_of, conflict_row, first_of, row, rows}
 pub use Rattle.session_model.specs.Replies.{Sight, assigned, done, plain, refused, reply_over, sight_of_kept}
 pub use Rattle.session_model.specs.Step.{StepOutcome, account_after, account_refusal, notes_to, performed, replies_to, step, unless}
 pub use Rattle.session_model.specs.Thresholds.{notes_at, notes_of_place, notes_over, passed_in}
@@ -122,9 +117,9 @@ pub use Rattle.session_model.specs.declared.line.Line.{Line}
 pub use Rattle.session_model.specs.declared.reply.Body.{Body}
 pub use Rattle.session_model.specs.declared.reply.Reply.{Reply}
 pub use Rattle.std.proofs.Common.{All, Bool, Err, FitsSigned, List, None, Ok, Option, Result, Some, [], ap, append-nil, append_assoc, ap₂, arith}
-pub use Rattle.std.proofs.Common.{bytes_eq, codes, cond, drop, false, filter, get_or, inl, inr, length, length-append, length-drop, map, min, nat_le}
-pub use Rattle.std.proofs.Common.{not, pos, refl, replicate, rules, slice_get, slice_index_or, slice_set, subst, suc, sum, sym, take, true, unwrap_or}
-pub use Rattle.std.proofs.Common.{zero, ℕ, ℤ, ◌%◌, ◌*◌, ◌++◌, ◌+ℤ◌, ◌+◌, ◌-ℤ◌, ◌-◌, ◌/◌, ◌<◌, ◌==◌, ◌^◌, ◌||◌, ◌∙◌, ◌∷◌, ◌≡◌, ◌≢◌, ◌≤◌, ◌⊎◌}
+pub use Rattle.std.proofs.Common.{bytes_eq, cond, drop, false, filter, get_or, inl, inr, length, length-append, length-drop, map, min, not, pos, refl}
+pub use Rattle.std.proofs.Common.{replicate, rules, slice_get, slice_index_or, slice_set, subst, suc, sum, sym, take, true, unwrap_or, zero, ℕ, ℤ}
+pub use Rattle.std.proofs.Common.{◌%◌, ◌*◌, ◌++◌, ◌+ℤ◌, ◌+◌, ◌-ℤ◌, ◌-◌, ◌/◌, ◌<◌, ◌==◌, ◌^◌, ◌||◌, ◌∙◌, ◌∷◌, ◌≡◌, ◌≢◌, ◌≤◌, ◌⊎◌}
 pub use Rattle.std.proofs.Math.Bool.{and-false}
 pub use Rattle.std.proofs.Math.Facts.{Fits-of_z}
 pub use Rattle.std.proofs.Math.Nat.{add-mod-mod, add-mul, div-mul-le_self, lt-div-mul-add, zero-add, zero-div, zero-mul}
