@@ -23,9 +23,7 @@ same_ends (a ∷ xs) (b ∷ ys) x y e =
 
 -- the tokens before an end, with the last of them apart
 pub last_apart : (tokens all : List Token) (end : ℕ) (t d : Token) → 0 < end → end ≤ length tokens → get_or tokens (end - 1) d ≡ t → take end tokens ≡ all → take (end - 1) tokens ++ t ∷ [] ≡ all
-last_apart tokens all end t d some within is e =
-    let next : end - 1 + 1 ≡ end = omega arith in
-    sym (take_more tokens (end - 1) d (omega arith) ∙ ap (λ u. take (end - 1) tokens ++ u ∷ []) is) ∙ ap (λ k. take k tokens) next ∙ e
+last_apart tokens all end t d some within is e = grind (arith, take_more)
 
 -- how many they are without it
 pub length_before : (tokens front : List Token) (end : ℕ) → end ≤ length tokens → take (end - 1) tokens ≡ front → end - 1 ≡ length front

@@ -1,5 +1,5 @@
 -- Numbers by their digits.
-use Rattle.std.proofs.Common.{◌≡◌, ◌∙◌, ◌+◌, ◌-◌, ◌*◌, ◌^◌, ◌<◌, ◌≤◌, ◌≢◌, ◌==◌, ◌&&◌, ◌||◌, ◌∷◌, ℕ, Bool, true, false, not, List, [], Option, Some, None, length, get_or, refl, sym, arith, min, inl, inr, eq-eqb}
+use Rattle.std.proofs.Common.{◌≡◌, ◌∙◌, ◌+◌, ◌-◌, ◌*◌, ◌^◌, ◌<◌, ◌≤◌, ◌≢◌, ◌==◌, ◌&&◌, ◌||◌, ◌∷◌, ℕ, true, false, not, List, [], Option, Some, None, length, get_or, refl, sym, arith, min, inl, inr}
 use Rattle.plain.proofs.Words.{IfSome, if◌then◌else◌, nat_le, digit_value, list_all, AllDigits, digits_value, cases_lt, ltb-true, le-leb, lt-leb}
 use Rattle.plain.proofs.Words.{ne_eqb, and_parts, or_right, and_right, nat_tests, digits_value-lt, le-mul_of_pos_right, mul-le-mul_right}
 use Rattle.plain.proofs.Words.{pow-le-pow_right, not_given, is_given}
@@ -12,15 +12,7 @@ top = 2 ^ 64 - 1
 
 -- one digit more, if a number past a limit is kept at it
 pub one_more : (v base d m : ℕ) → 1 ≤ base → min (min (min v m * base) m + d) m ≡ min (v * base + d) m
-one_more v base d m some = elim (cases_lt m v) [
-  | inl past ↦ (
-      let at_limit : min v m ≡ m = omega arith in
-      let kept : m ≤ m * base = le-mul_of_pos_right m some in
-      let more : m * base ≤ v * base = mul-le-mul_right base (omega arith) in
-      rw at_limit (omega (arith, kept, more))
-      )
-  | inr within ↦ (let same : min v m ≡ v = omega arith in rw same (omega arith))
-]
+one_more v base d m some = grind (arith, cases_lt, le-mul_of_pos_right, mul-le-mul_right)
 
 -- what some digits write in a base, kept at the top
 abbrev pub number_of : ℕ → List ℕ → Option ℕ
@@ -43,9 +35,7 @@ decimal_empty low high (b ∷ t) e = absurd (omega arith)
 
 pub decimal_zero : (low high : ℕ) (t : List ℕ) → 1 < length t → get_or t 0 0 ≡ 48 → decimal_in low high t ≡ None
 unfolding decimal_in is_decimal
-decimal_zero low high t h e =
-    let more : (length t == 1) ≡ false = ne_eqb (length t) 1 (λ e. omega arith) in
-    rw (more, eq-eqb (get_or t 0 0) 48 e) (rw (and_right (is_numeral t) false refl) refl)
+decimal_zero low high t h e = grind (arith, ne_eqb, and_right)
 
 pub decimal_other : (low high : ℕ) (t : List ℕ) → None ≡ number_of 10 t → decimal_in low high t ≡ None
 unfolding decimal_in is_decimal is_numeral
@@ -58,10 +48,7 @@ filled [] h = absurd (omega arith)
 filled (b ∷ t) h = refl
 
 form_is : (t : List ℕ) → 0 < length t → (1 < length t → get_or t 0 0 ≢ 48) → ((length t == 1) || not (get_or t 0 0 == 48)) ≡ true
-form_is t some other = elim (cases_lt 1 (length t)) [
-  | inl more ↦ rw (ne_eqb (get_or t 0 0) 48 (other more)) (or_right (length t == 1) true refl)
-  | inr one ↦ rw (eq-eqb (length t) 1 (omega arith)) refl
-]
+form_is t some other = grind (arith, cases_lt, ne_eqb, or_right)
 
 -- digits with no zero in front are tested for the range
 pub decimal_is : (low high n : ℕ) (t : List ℕ) → 0 < length t → (1 < length t → get_or t 0 0 ≢ 48) → high < 2 ^ 32 → Some n ≡ number_of 10 t
@@ -93,26 +80,4 @@ pub record IsHex (few many : ℕ) (t : List ℕ) (n : Option ℕ) : Type 0 where
 
 pub hex_is : (few many : ℕ) (t : List ℕ) → few ≤ length t → length t ≤ many → many ≤ 16 → IsHex few many t (number_of 16 t)
 unfolding hex_in
-hex_is few many t enough within fits = go (list_all is_hex_digit t) refl
-  where
-    value : ℕ
-    value = digits_value 16 t
-
-    some : list_all is_hex_digit t ≡ true → value < 16 ^ many
-    some e =
-        let less : value < 16 ^ length t = digits_value-lt 16 t (all_digits t e) in
-        let most : 16 ^ length t ≤ 16 ^ many = pow-le-pow_right {n = 16} (omega arith) within in
-        omega (arith, less, most)
-
-    same : list_all is_hex_digit t ≡ true → min value top ≡ value
-    same e =
-        let most : 16 ^ many ≤ 16 ^ 16 = pow-le-pow_right {n = 16} (omega arith) fits in
-        omega (arith, some e, most)
-
-    go : (x : Bool) → list_all is_hex_digit t ≡ x
-        → IsHex few many t (if x then Some (min value top) else None)
-    go true e = rw (same e) (record {
-      number = rw (e, le-leb few (length t) enough, le-leb (length t) many within) refl;
-      most = some e;
-    })
-    go false e = record { number = rw e refl; most = tt }
+hex_is few many t enough within fits = grind (arith, digits_value-lt, all_digits, pow-le-pow_right, le-leb)

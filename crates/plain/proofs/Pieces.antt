@@ -1,10 +1,9 @@
 -- The pieces of a tape between its newlines, as lines.
 use Rattle.plain.proofs.Words.{◌≡◌, ◌∙◌, ◌+◌, ◌-◌, ◌<◌, ◌≤◌, ◌++◌, ◌∷◌, ℕ, Bool, Bor, true, false, List, [], drop, get_or, length, length-drop, map}
-use Rattle.plain.proofs.Words.{nat_lt, refl, sym, ap, arith, if◌then◌else◌, ltb-false, nat_tests, flag_bit, Bad, Coming, Dry, LineCause, Occ, End}
-use Rattle.plain.proofs.Words.{LARGEST_STREAM, LONGEST_LINE, Judgement, LineStart, judged, line_text, text_judged, Line, is_last_line, lines_of}
+use Rattle.plain.proofs.Words.{nat_lt, refl, sym, ap, arith, ltb-false, nat_tests, flag_bit, Bad, Coming, Dry, LineCause, Occ, End}
+use Rattle.plain.proofs.Words.{LARGEST_STREAM, Judgement, LineStart, judged, Line, is_last_line, lines_of}
 use Rattle.plain.proofs.Words.{after, is_bad, joined, occurs_from, occurrence_of}
 use Rattle.std.proofs.lemmas.List.{append_assoc, drop_all, drop_more, get_or-map, length-map}
-use Rattle.papi_base.specs.declared.occurrence.LineCause.TheVariants as cause
 use Rattle.stream_reader.specs.declared.line.Judgement.TheVariants as judgement
 
 -- what the lines of some pieces say
@@ -69,14 +68,7 @@ not_bad j other = refl
 -- a line that is not bad lies within the stream
 pub within_stream : (start : LineStart) (line : Line) → is_bad (judged start line) ≡ false → start.passed + length line.bytes ≤ LARGEST_STREAM
 unfolding judged
-within_stream start line good = go (nat_lt LONGEST_LINE (length line.bytes)) (nat_lt LARGEST_STREAM (start.passed + length line.bytes)) refl good
-  where
-    go : (long past : Bool) → nat_lt LARGEST_STREAM (start.passed + length line.bytes) ≡ past
-        → is_bad (if long then judgement.Bad cause.Long else if past then judgement.Bad cause.Size else text_judged start (line_text line)) ≡ false
-        → start.passed + length line.bytes ≤ LARGEST_STREAM
-    go true past e h = cc h
-    go false true e h = cc h
-    go false false e h = ltb-false LARGEST_STREAM (start.passed + length line.bytes) e
+within_stream start line good = grind (arith, ltb-false)
 
 -- what is so where the line after it begins
 pub record Passed (start : LineStart) (line : Line) (next : LineStart) : Type 0 where
@@ -113,16 +105,9 @@ said_at_end start pieces i past = ap (said_from start) (drop_all i pieces past) 
 -- an empty last piece is no line
 pub said_at_empty : (start : LineStart) (pieces : List (List ℕ)) (i : ℕ) (piece : List ℕ) → i + 1 ≡ length pieces → piece ≡ get_or pieces i [] → length piece ≡ 0
     → said_from start (drop i pieces) ≡ record { rest = []; mark = Dry }
-said_at_empty start pieces i piece last is none =
-    ap (said_from start) (drop_more pieces i [] (omega arith) ∙ ap (λ p. p ∷ drop (i + 1) pieces) (sym is) ∙ ap (λ ps. piece ∷ ps) (drop_all (i + 1) pieces (omega arith)))
-    ∙ no_line start piece none ∙ said_none start
+said_at_empty start pieces i piece last is none = grind (arith, drop_more, drop_all, no_line, said_none)
 
 -- a piece that was read at a place of a vector of n
 pub line_is : (items : List (Bor (List ℕ))) (i : ℕ) (x : Bor (List ℕ)) (n : ℕ) → i < length items → x ≡ get_or items i x → n ≡ length items → (nat_lt (i + 1) n ≡ false → 0 < length x.now)
     → IsLineAt (map (λ y. y.now) items) i x.now (nat_lt (i + 1) n)
-line_is items i x n within is size some = record {
-  within = omega (arith, length-map items (λ y. y.now));
-  is = ap (λ y. y.now) is ∙ sym (get_or-map (λ y. y.now) items i x [] within);
-  ended_if = ap (nat_lt (i + 1)) (size ∙ sym (length-map items (λ y. y.now)));
-  some = some;
-}
+line_is items i x n within is size some = grind (arith, length-map, get_or-map)

@@ -28,7 +28,7 @@ pub use Rattle.postfix_rules.specs.Values.{applied}
 unfoldable pub use Rattle.postfix_rules.specs.Values.{tree_value}
 pub use Rattle.postfix_rules.specs.declared.token.Operator.{Operator}
 pub use Rattle.postfix_rules.specs.declared.token.Token.{Token}
-pub use Rattle.session_model.specs.Account.{Kept, clock, last_after, time_after}
+pub use Rattle.session_model.specs.Account.{Kept, clock, last_after}
 pub use Rattle.session_model.specs.Counts.{along, weighed}
 pub use Rattle.session_model.specs.Estimates.{estimated_in, total}
 pub use Rattle.std.proofs.Common.{Bool, Bor, FitsSigned, List, None, Option, Some, [], ap, append-nil, append_assoc, ap₂, arith, cond, drop, false}
@@ -56,12 +56,11 @@ pub use Rattle.std.specs.Prelude.{IfSome, count_by, filter, find, if◌then◌el
 pub use Rattle.std.specs.Str.Parse.{AllDigits, digits_value}
 pub use Rattle.stream_reader.proofs.Hexadecimals.{hex-long, hex-short}
 pub use Rattle.stream_reader.proofs.Taking.{flag-small}
-pub use Rattle.stream_reader.specs.Judged.{line_text, text_judged}
 unfoldable pub use Rattle.stream_reader.specs.Judged.{judged}
 pub use Rattle.stream_reader.specs.Lines.{Line, is_last_line}
 unfoldable pub use Rattle.stream_reader.specs.Lines.{lines_of, tape_lines}
 pub use Rattle.stream_reader.specs.Occurs.{after, is_bad, joined}
 unfoldable pub use Rattle.stream_reader.specs.Occurs.{occurs_from, occurs_of}
-pub use Rattle.stream_reader.specs.declared.limits.TheConstants.{LARGEST_STREAM, LONGEST_LINE}
+pub use Rattle.stream_reader.specs.declared.limits.TheConstants.{LARGEST_STREAM}
 pub use Rattle.stream_reader.specs.declared.line.Judgement.{Judgement}
 pub use Rattle.stream_reader.specs.declared.line.LineStart.{LineStart}

@@ -15,9 +15,7 @@ returns-else-is_distinct t c =
     sym (first_of_none c.args.front.now c.args.allowed.now false (eqb-true _ _ (sym c.is_empty.ensures ∙ c.if-is_empty.true)) (sym c.is_distinct.ensures ∙ c.if-is_distinct.false))
 
 pub loop-counter-init : goal.loop-counter-init
-loop-counter-init t c =
-    let some = eqb-false _ _ (sym c.is_empty.ensures ∙ c.if-is_empty.false) in
-    first_of_masks c.args.front.now c.args.allowed.now (omega arith)
+loop-counter-init t c = grind (arith, eqb-false, first_of_masks)
 
 -- the masks after the first
 rest : (allowed : List ℕ) → take (length allowed - 1) (drop 1 allowed) ≡ drop 1 allowed

@@ -1,4 +1,5 @@
-use Rattle.plain.proofs.Words.{ℕ, List, ◌∙◌, ap, ap₂, length, take, counters_of, Blame}
+use Rattle.std.proofs.Common.{arith}
+use Rattle.plain.proofs.Words.{ℕ, List, length, counters_of, Blame}
 use Rattle.counter_alloc.specs.BlameOf as BlameOf
 use Rattle.plain.proofs.blame.blame_by_sets.Goals as goal
 
@@ -11,8 +12,4 @@ blame_in prefix = let members : ℕ = BlameOf.in_each_set (length prefix) (Blame
 
 pub returns : goal.returns
 unfolding BlameOf.blame_of
-returns c =
-    let prefix : List ℕ = take c.shortest_prefix.result c.args.allowed.now in
-    let members = c.in_each_deficient-members.ensures in
-    ap₂ blame members (c.counters_of.ensures ∙ ap (counters_of prefix) members)
-    ∙ ap (λ n. blame_in (take n c.args.allowed.now)) c.shortest_prefix.ensures.shortest
+returns c = grind arith

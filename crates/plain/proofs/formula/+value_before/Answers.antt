@@ -1,6 +1,6 @@
 -- the last token is the root of the tree
-use Rattle.plain.proofs.Words.{◌≡◌, ◌∙◌, ◌<◌, ◌≤◌, ◌^◌, ◌-◌, ◌++◌, ℕ, List, Some, FitsSigned, ap, ap₂, arith, get_or, length, length-take-le, of_z}
-use Rattle.plain.proofs.Words.{pos, rules, slice_get, sym, take, to_z, to_z-of_z, w64, slice_index_or, to_z_pos, slice_get-get_or, spelling, applied}
+use Rattle.plain.proofs.Words.{◌≡◌, ◌∙◌, ◌<◌, ◌≤◌, ◌^◌, ◌-◌, ◌++◌, ℕ, List, Some, FitsSigned, ap, ap₂, arith, get_or, length, of_z}
+use Rattle.plain.proofs.Words.{pos, rules, slice_get, sym, to_z, to_z-of_z, w64, slice_index_or, to_z_pos, slice_get-get_or, spelling, applied}
 use Rattle.plain.proofs.Words.{tree_value, Token}
 use Rattle.postfix_rules.specs.declared.token.Token.TheVariants as token
 use Rattle.plain.proofs.LastTokens.{last_apart, last_constant, last_native, last_operator, left_apart, length_before, node_value, none_before}
@@ -11,9 +11,7 @@ small : (tokens : List Token) (end n : ℕ) → 0 < end → end ≤ length token
 small tokens end n some within constants is = constants (end - 1) n (slice_get-get_or tokens (end - 1) (token.Constant 0) (omega arith) ∙ ap Some is)
 
 pub overflow_cast-result : goal.overflow_cast-result
-overflow_cast-result t c =
-    let ne = c.if-end-eq0.false in
-    record { sfits = small c.args.tokens.now c.args.end c.in-Constant.n (omega arith) c.requires.within c.requires.constants c.in-Constant.is }
+overflow_cast-result t c = grind (arith, small)
 
 pub returns-then-end-eq0-clause-tree : goal.returns-then-end-eq0-clause-tree
 returns-then-end-eq0-clause-tree t c front tree e = absurd (none_before c.args.tokens.now front c.args.end tree c.if-end-eq0.true e)

@@ -1,10 +1,9 @@
-use Rattle.plain.proofs.Words.{◌≡◌, ◌∙◌, List, [], ap, sym, slice_get, arith, length, of_z, rules, to_z, w64, take_all, Token}
+use Rattle.plain.proofs.Words.{◌≡◌, ◌∙◌, List, [], arith, length, of_z, rules, to_z, w64, take_all, Token}
 use Rattle.plain.proofs.LastTokens.{small_constants}
 use Rattle.plain.proofs.formula.value_by_tree.Goals as goal
 
 pub value_before-requires-clause-constants : goal.value_before-requires-clause-constants
-value_before-requires-clause-constants c i n e =
-    small_constants c.args.f.now.natives 0 0 c.args.f.now.tokens c.tokens-tokens.ensures.formula i n (ap (λ (ts : List Token). slice_get ts i) (sym c.tokens-tokens.ensures.tokens) ∙ e)
+value_before-requires-clause-constants c i n e = grind (arith, small_constants)
 
 pub returns : goal.returns
 returns c tree spells =

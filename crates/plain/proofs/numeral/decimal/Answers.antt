@@ -1,16 +1,11 @@
-use Rattle.plain.proofs.Words.{◌∙◌, ◌<◌, ◌≢◌, ℕ, List, length, get_or, sym, arith, refl, false, nat_le, le-leb, lt-leb, and_right, nat_tests}
+use Rattle.plain.proofs.Words.{◌∙◌, ◌<◌, ◌≢◌, length, get_or, sym, arith, refl, false, nat_le, le-leb, lt-leb, and_right, nat_tests}
 use Rattle.plain.proofs.Numbers.{decimal_empty, decimal_is, decimal_other, decimal_zero}
 use Rattle.plain.proofs.numeral.decimal.Goals as goal
 use Rattle.plain.proofs.numeral.decimal.Goals.{then-is_empty-via-then-is_empty, then-is_empty-via-else-is_empty+then-text-eq48}
 use Rattle.plain.proofs.numeral.decimal.Goals.{else-low-number-via-then-low-number+else-number-high, else-low-number-via-else-low-number}
 
 pub returns-then-is_empty-clause-number : goal.returns-then-is_empty-clause-number
-returns-then-is_empty-clause-number c =
-    let t : List ℕ = c.args.text.now in
-    sym (elim c.then-is_empty.branch [
-      | then-is_empty-via-then-is_empty w ↦ decimal_empty c.args.low c.args.high t (grind (arith, nat_tests))
-      | then-is_empty-via-else-is_empty+then-text-eq48 w ↦ decimal_zero c.args.low c.args.high t (grind (arith, nat_tests)) (grind (arith, nat_tests))
-    ])
+returns-then-is_empty-clause-number c = grind (arith, decimal_empty, nat_tests, decimal_zero)
 
 pub returns-in_err-number-clause-number : goal.returns-in_err-number-clause-number
 returns-in_err-number-clause-number c = c.from_residual.ensures ∙ sym (decimal_other c.args.low c.args.high c.args.text.now c.in_err-number.ensures)

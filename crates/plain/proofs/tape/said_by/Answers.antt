@@ -1,5 +1,5 @@
-use Rattle.plain.proofs.Words.{◌≡◌, ◌∙◌, ◌+◌, ◌<◌, ℕ, Bool, false, List, [], Bor, ap, arith, drop, length, map, nat_lt, refl, sym, nat_tests, Coming}
-use Rattle.plain.proofs.Words.{Dry, LineStart, judged, tape_lines, after, is_bad, occurs_of, flag-small}
+use Rattle.plain.proofs.Words.{◌≡◌, ◌∙◌, ◌+◌, ℕ, Bool, false, List, Bor, ap, arith, map, nat_lt, refl, sym, nat_tests, Coming}
+use Rattle.plain.proofs.Words.{LineStart, judged, tape_lines, after, is_bad, occurs_of, flag-small}
 use Rattle.std.proofs.lemmas.List.{append-nil, get_or-map, length-map}
 use Rattle.plain.proofs.Pieces.{IsLineAt, before, line_is, line_of, not_bad, passed_by, said_at_empty, said_at_end, said_from, says_bad, says_on, within_stream}
 use Rattle.plain.proofs.tape.said_by.Goals as goal
@@ -8,23 +8,11 @@ use Rattle.plain.proofs.tape.said_by.Goals.{After-judge-judgement, else-loop-i-t
 
 pub loop-i-init : goal.loop-i-init
 unfolding occurs_of tape_lines
-loop-i-init c = record {
-  says = rw (c.new-occurrences.ensures.items, c.in_ok-pieces.ensures) refl;
-  number = omega arith;
-  passed = omega arith;
-  given = omega arith;
-}
+loop-i-init c = grind arith
 
 -- the piece that is judged
 piece_at : (c : After-judge-judgement) → IsLineAt (map (λ y. y.now) c.in_ok-pieces.pieces.items) c.loop-i.i c.index-line.result.now.now (nat_lt (c.loop-i.i + 1) c.len.result)
-piece_at c =
-    let items : List (Bor (List ℕ)) = c.in_ok-pieces.pieces.items in
-    let size : c.len.result ≡ length items = c.len.ensures ∙ omega (arith, c.in_ok-pieces.pieces.ok.0) in
-    let some : (nat_lt (c.loop-i.i + 1) c.len.result ≡ false → 0 < length c.index-line.result.now.now) = elim c.else-not-ended.branch [
-      | else-not-ended-via-then-not-ended+else-is_empty w ↦ λ last. grind (arith, nat_tests)
-      | else-not-ended-via-else-not-ended w ↦ λ last. grind (arith, nat_tests)
-    ] in
-    line_is items c.loop-i.i c.index-line.result.now c.len.result (omega arith) c.index-line.ensures size some
+piece_at c = grind (arith, nat_tests, line_is)
 
 pub returns-in-Bad : goal.returns-in-Bad
 returns-in-Bad c =
@@ -64,21 +52,4 @@ loop-i-preserved c =
     }
 
 pub returns : goal.returns
-returns c =
-    let items : List (Bor (List ℕ)) = c.in_ok-pieces.pieces.items in
-    let end : said_from c.loop-i.start (drop c.loop-i.i (map (λ y. y.now) items)) ≡ record { rest = []; mark = Dry } = elim c.loop-i-test.branch [
-      | else-loop-i-test w ↦ said_at_end c.loop-i.start (map (λ y. y.now) items) c.loop-i.i (omega (arith, length-map items (λ y. y.now)))
-      | then-loop-i-test+then-not-ended+then-is_empty w ↦ (
-          let size : w.len.result ≡ length items = w.len.ensures ∙ omega (arith, c.in_ok-pieces.pieces.ok.0) in
-          let within : c.loop-i.i < length items = omega (arith, size, w.loop-i-test.true, c.len-i-end.ensures) in
-          let last : c.loop-i.i + 1 ≡ length items = grind (arith, nat_tests) in
-          let empty : length w.index-line.result.now.now ≡ 0 = grind (arith, nat_tests) in
-          said_at_empty c.loop-i.start (map (λ y. y.now) items) c.loop-i.i w.index-line.result.now.now (last ∙ sym (length-map items (λ y. y.now)))
-          (ap (λ (y : Bor (List ℕ)). y.now) w.index-line.ensures ∙ sym (get_or-map (λ (y : Bor (List ℕ)). y.now) items c.loop-i.i w.index-line.result.now [] within)) empty
-          )
-    ] in
-    let says = c.loop-i.invariant.says ∙ ap (before c.loop-i.occurrences.items) end in
-    record {
-      occurrences = sym (ap (λ (m : Coming). m.rest) says ∙ append-nil c.loop-i.occurrences.items);
-      mark = sym (ap (λ (m : Coming). m.mark) says);
-    }
+returns c = grind (arith, said_from, said_at_end, length-map, nat_tests, said_at_empty, get_or-map, before, append-nil)
