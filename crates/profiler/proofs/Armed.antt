@@ -1,9 +1,10 @@
 -- The calls that begin to count an event with a threshold.
-use Rattle.profiler.proofs.Words.{◌≡◌, ◌≢◌, Bool, List, [], ◌∷◌, refl, ◌++◌, ap, sym, subst, ◌∙◌, append_assoc, Ok, Err, Some, None, Result, true}
-use Rattle.profiler.proofs.Words.{false, ap₂, All-from_recursion, All, AllByRecursion, list_all, IfErr, Code, Ecount, Book, Widths, Refusal, Plain}
-use Rattle.profiler.proofs.Words.{Conflict, Account, faces_of, plain, refused, account_after, performed, replies_to, step, unless, Call, Body, Reply}
+use Rattle.std.proofs.Common.{arith}
+use Rattle.profiler.proofs.Words.{◌≡◌, ◌≢◌, Bool, List, [], ◌∷◌, refl, ◌++◌, ap, sym, subst, ◌∙◌, append_assoc, Ok, Err, Some, Result, true}
+use Rattle.profiler.proofs.Words.{false, ap₂, All-from_recursion, All, AllByRecursion, IfErr, Code, Book, Widths, Refusal, Plain}
+use Rattle.profiler.proofs.Words.{Conflict, Account, plain, refused, account_after, replies_to, step, Call, Body, Reply}
 use Rattle.profiler.proofs.Words.{CoreView, Follows, IsRefusal, reply_of, CoreStands, first_refused, is_ok}
-use Rattle.std.specs.Prelude.{if◌then◌else◌, is_some}
+use Rattle.std.specs.Prelude.{if◌then◌else◌}
 use Rattle.std.specs.Result as result
 use Rattle.papi_base.specs.declared.code.Code.TheVariants as code
 use Rattle.call_type.specs.declared.call.Call.TheVariants as call
@@ -65,10 +66,7 @@ refusal_not_ok {X} r result is h = go r (subst (λ (x : Result X Refusal). IfErr
 
 -- no set is made
 pub create_not_ok : (book : Book) (k l : CoreView) (c : Code) → Follows book k l call.Create (plain c) → (a : Account) → CoreStands book k a → is_ok c ≡ false
-create_not_ok book k l c f a h = go (list_all (λ place. is_some place) (faces_of a.sets)) (f.reply a h) where
-  go : (b : Bool) → plain c ≡ (unless (if b then Some (Plain Ecount) else None) a (performed book k.shape a call.Create)).reply → is_ok c ≡ false
-  go true e = ap (λ (r : Reply). is_ok r.code) e
-  go false e = let clash = ap (λ (r : Reply). r.body) e in cc clash
+create_not_ok book k l c f a h = grind arith
 
 -- if each reply has PAPI_OK
 pub all_done : (replies given : List Reply) → replies ≡ given → AllByRecursion (λ (r : Reply). r.code ≡ code.Ok) given → All (λ (r : Reply). r.code ≡ code.Ok) replies

@@ -1,7 +1,7 @@
 -- Sampling a stream, occurrence by occurrence.
 use Rattle.profiler.proofs.Words.{◌≡◌, ℕ, ◌+◌, ◌≤◌, ◌<◌, List, [], ◌∷◌, ◌++◌, length, map, replicate, refl, ap, sym, subst, ◌∙◌, arith, append_assoc}
 use Rattle.profiler.proofs.Words.{append-nil, Option, Some, if◌then◌else◌, ◌==◌, unwrap_or, zero, suc, map-append, sum_by-append, BTreeMap, get}
-use Rattle.profiler.proofs.Words.{is_at, lookup, option_map, nat_cmp, Occ, Coming, Mark, Note, Book, Account, Kept, note, notes_at, notes_over}
+use Rattle.profiler.proofs.Words.{is_at, lookup, nat_cmp, Occ, Coming, Mark, Note, Book, Account, Kept, note, notes_at, notes_over}
 use Rattle.profiler.proofs.Words.{GaveAll, gave_mark, gave_more, GaveOne, NextGives, ReaderView, at_mark, CoreView, CoreStands, consumed, passings_at}
 use Rattle.profiler.proofs.Words.{AreInStep, passings}
 use Rattle.stream_reader.specs.declared.next.Next.TheVariants as next
@@ -59,10 +59,7 @@ at_end core to_come to_come_then book a stream entry m gives s =
     (λ pc. s.exact pc ∙ ap (λ (os : List Occ). passings_at (passings book a os) pc) (sym closed.rest), closed.mark)
 
 pub in_step_then : (core core_then : CoreView) (reader later : ReaderView) (o : Occ) → core_then.taken ≡ core.taken + 1 → core_then.last ≡ Some o → AreInStep core reader → GaveOne reader.start o later.start → AreInStep core_then later
-in_step_then core core_then reader later o t l s n = record {
-  taken = omega (arith, t, s.taken, n.given);
-  last = ap (option_map (λ (x : Occ). x.stamp)) l ∙ sym n.last;
-}
+in_step_then core core_then reader later o t l s n = grind arith
 
 -- how often an address is among n of one
 pub passings_at_replicate : (n pc other : ℕ) → passings_at (replicate n pc) other ≡ (if pc == other then n else 0)

@@ -9,7 +9,6 @@ pub use Rattle.overflow_dispatch.specs.declared.handler.Note.{Note}
 pub use Rattle.papi_base.specs.Outside.{Tape}
 pub use Rattle.papi_base.specs.Streams.{Coming, Dry, Mark}
 pub use Rattle.papi_base.specs.declared.code.Code.{Code}
-pub use Rattle.papi_base.specs.declared.code.Code.TheVariants.{Ecount}
 pub use Rattle.papi_base.specs.declared.limits.TheConstants.{MOST_OCCURRENCES, MOST_SET_EVENTS}
 pub use Rattle.papi_base.specs.declared.native.Native.{Native}
 pub use Rattle.papi_base.specs.declared.occurrence.Occ.{Occ}
@@ -23,9 +22,8 @@ pub use Rattle.profiler.specs.declared.ranking.Hot.{Hot}
 pub use Rattle.profiler.specs.declared.ranking.TheConstants.{MOST}
 pub use Rattle.session_model.specs.Account.{Account, Kept}
 pub use Rattle.session_model.specs.CallTypes.{Call}
-pub use Rattle.session_model.specs.Faces.{faces_of}
 pub use Rattle.session_model.specs.Replies.{plain, refused}
-pub use Rattle.session_model.specs.Step.{account_after, performed, replies_to, step, unless}
+pub use Rattle.session_model.specs.Step.{account_after, replies_to, step}
 pub use Rattle.session_model.specs.Thresholds.{note, notes_at, notes_over}
 pub use Rattle.session_model.specs.declared.reply.Body.{Body}
 pub use Rattle.session_model.specs.declared.reply.Reply.{Reply}
@@ -46,7 +44,7 @@ pub use Rattle.std.proofs.lemmas.Result.{IfOk-at_ok, IfOk-weaker, err_from_is_er
 pub use Rattle.std.proofs.lemmas.Simd.{map-map}
 pub use Rattle.std.specs.BTreeMap.{BTreeMap, IsOrdered, get, is_at, keys}
 pub use Rattle.std.specs.Cmp.{IsStrictWeakOrder}
-pub use Rattle.std.specs.List.{All, AllByRecursion, Contains, IsDistinct, list_all}
+pub use Rattle.std.specs.List.{All, AllByRecursion, Contains, IsDistinct}
 pub use Rattle.std.specs.List.Sorted.{IsPermutation, IsSortedBy}
 pub use Rattle.std.specs.Map.{lookup}
 pub use Rattle.std.specs.Option.{option_map}
@@ -58,5 +56,5 @@ pub use Rattle.stream_reader.proofs.Giving.{GaveAll, gave_mark, gave_more}
 pub use Rattle.stream_reader.specs.Occurs.{occurs_of}
 pub use Rattle.stream_reader.specs.Reader.{GaveOne, NextGives, ReaderView, at_mark, coming}
 pub use Rattle.thread_core.specs.CoreView.{CoreView, opening_core}
-pub use Rattle.thread_core.specs.Following.{Follows, IsRefusal, changed_reply, reply_of}
+pub use Rattle.thread_core.specs.Following.{Follows, IsRefusal, reply_of}
 pub use Rattle.thread_core.specs.Stands.{AgreesWith, CoreStands, consumed}

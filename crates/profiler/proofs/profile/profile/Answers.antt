@@ -1,3 +1,4 @@
+use Rattle.std.proofs.Common.{arith}
 use Rattle.profiler.proofs.Words.{rules, ◌≡◌, ◌∙◌, List, ap, sym, subst, Err, Result, [], Vec, IfOk-at_ok, IfOk-weaker, err_from_is_err_and}
 use Rattle.profiler.proofs.Words.{option_map, Global, Refusal, ComponentText, shape_of, ReadsUnit, names, Tape, Dry, account_after, occurs_of}
 use Rattle.profiler.proofs.Words.{CoreView, opening_core, AgreesWith, CoreStands, AreHottest, IsAnswered, IsSampled, calls, passings, IsProfile}
@@ -24,12 +25,7 @@ returns-in_err-map_err g c =
     (subst (λ (r : Result (Unit {0}) Refusal). IsAnswered r c.new-book.result c.in_ok-core.core.shape before (calls c.in_ok-native.native c.args.threshold)) q.1 (c.arm.ensures.answered before opened))))
 
 pub returns-in_err-native : goal.returns-in_err-native
-returns-in_err-native g c =
-    let p = err_from_is_err_and c.from_residual-in_err-native.result c.from_residual-in_err-native.ensures.1 in
-    let q = err_under _ c.encode.result c.map_err-2.result c.in_err-native.field-0.0 c.map_err-2.ensures.cases c.in_err-native.was in
-    let read = subst (λ r. ReadsUnit r c.args.unit.now) (ok_under _ c.read_unit.result c.map_err.result c.in_ok-tables.tables c.map_err.ensures.cases c.in_ok-tables.was) c.read_unit.ensures in
-    let named = sym (ap (λ (x : List ComponentText). names x c.args.event.now) read.1) ∙ sym c.encode.ensures.names ∙ q.1 in
-    rw (p.1, p.2) (λ tape told. subst (λ (f : Fault). IsProfile (Err f) c.args.unit.now c.args.event.now c.args.threshold (occurs_of tape.ending tape.bytes)) (sym q.2) (read.0, named))
+returns-in_err-native g c = grind (arith, err_from_is_err_and, err_under, ok_under)
 
 pub returns-in_err-counts : goal.returns-in_err-counts
 returns-in_err-counts g c =
