@@ -1,18 +1,12 @@
 -- The search of the range of an address among the ranges in the order of their addresses.
-use Rattle.profil_hist.proofs.Words.{◌≡◌, ◌∙◌, ◌+◌, ◌-◌, ◌*◌, ◌/◌, ◌<◌, ◌≤◌, ◌∷◌, ℕ, zero, suc, List, [], Some, Bool, true, false}
-use Rattle.profil_hist.proofs.Words.{length, get_or, refl, sym, ap, subst, arith, map, ◌++◌, eq-eqb, or-true, div-lt_iff_lt-mul, div-mul-le_self}
-use Rattle.profil_hist.proofs.Words.{lt-mul-div-succ, mul_comm, mul-le-mul, eqb-true, lt-ltb, ltb-false, ltb-true, false_from_ne_true, and_from}
+use Rattle.profil_hist.proofs.Words.{◌≡◌, ◌∙◌, ◌+◌, ◌-◌, ◌*◌, ◌<◌, ◌≤◌, ◌∷◌, ℕ, zero, suc, List, [], Some, Bool, true, false}
+use Rattle.profil_hist.proofs.Words.{length, get_or, refl, sym, ap, subst, arith, map, ◌++◌, eq-eqb, or-true}
+use Rattle.profil_hist.proofs.Words.{mul-le-mul, eqb-true, lt-ltb, ltb-false, ltb-true, false_from_ne_true, and_from}
 use Rattle.profil_hist.proofs.Words.{slice_get-get_or, slice_get-map, slice_get_within, ◌||◌, ◌==◌, nat_lt, option_map, slice_get, length-map}
 use Rattle.profil_hist.proofs.Words.{All-push, list_any-append, All-permutation, list_any-IsPermutation, list_any, IsPartitionPoint, IsPermutation}
-use Rattle.profil_hist.proofs.Words.{all_at, range_text, MapRange, ArePlacesOf, IsOrder, IsPlaced, IsMap, IsRange, RangeText, end_of, in_bucket}
+use Rattle.profil_hist.proofs.Words.{all_at, range_text, MapRange, ArePlacesOf, IsOrder, IsPlaced, IsMap, IsRange, RangeText, end_of}
 use Rattle.profil_hist.proofs.Words.{in_range, RangeStart}
-use Rattle.profil_hist.proofs.Noted.{inside, true-not-false, two-apart, within}
-
--- ---- the bucket of an address
-
-pub bucket-found : (r : RangeText) (pc : ℕ) → 1 ≤ r.width → in_range r pc ≡ true
-    → (in_bucket r ((pc - r.start) / r.width) pc ≡ true) × ((pc - r.start) / r.width < r.buckets)
-bucket-found r pc wide e = grind (arith, inside, div-mul-le_self, lt-mul-div-succ, mul_comm, within, div-lt_iff_lt-mul)
+use Rattle.profil_hist.proofs.Noted.{inside, true-not-false, two-apart}
 
 -- ---- the range of an address
 

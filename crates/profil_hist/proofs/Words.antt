@@ -20,11 +20,11 @@ pub use Rattle.profil_hist.specs.declared.placing.Place.{Place}
 pub use Rattle.profil_hist.specs.declared.placing.RangeStart.{RangeStart}
 pub use Rattle.profil_hist.specs.declared.range.MapRange.{MapRange}
 pub use Rattle.std.proofs.Common.{Bool, Err, IfOk, List, None, Ok, Option, Result, Some, [], ap, arith, eq-eqb, false, get_or, length, length-append}
-pub use Rattle.std.proofs.Common.{map, refl, rules, string_bytes, subst, suc, sym, take, tests, true, zero, ℕ, ◌*◌, ◌++◌, ◌+◌, ◌-◌, ◌/◌, ◌<◌, ◌^◌}
+pub use Rattle.std.proofs.Common.{map, refl, rules, string_bytes, subst, suc, sym, take, tests, true, zero, ℕ, ◌*◌, ◌++◌, ◌+◌, ◌-◌, ◌<◌, ◌^◌}
 pub use Rattle.std.proofs.Common.{◌∙◌, ◌∷◌, ◌≡◌, ◌≤◌}
 pub use Rattle.std.proofs.Math.Bool.{or-true}
 pub use Rattle.std.proofs.Math.ListN.{length-set, set}
-pub use Rattle.std.proofs.Math.Nat.{div-lt_iff_lt-mul, div-mul-le_self, lt-mul-div-succ, mul-le-mul, mul-le-mul_right, mul_comm}
+pub use Rattle.std.proofs.Math.Nat.{mul-le-mul, mul-le-mul_right, mul_comm}
 pub use Rattle.std.proofs.lemmas.Bool.{and_from, and_parts, cond_both, eqb-true, false_from_ne_true, le-leb, leb-false, leb-true, lt-ltb, ltb-false}
 pub use Rattle.std.proofs.lemmas.Bool.{ltb-true, or_parts}
 pub use Rattle.std.proofs.lemmas.Iterator.{YieldsList-from_slice}

@@ -22,7 +22,7 @@ without_front (b ∷ rest) = if is_blank b then without_front rest else b ∷ re
 unfoldable pub trimmed : Text → Text
 trimmed t = reverse (without_front (reverse (without_front t)))
 
--- the field at this place without spaces and tabs at its ends, and an empty text where the row has no such field
+-- the field at this place without spaces and tabs at its ends, and an empty text if the row has no such field
 unfoldable pub text_at : List Text → ℕ → Text
 text_at fields i = trimmed (unwrap_or (slice_get fields i) [])
 
