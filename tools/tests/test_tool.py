@@ -551,6 +551,13 @@ class Runs(Recording):
         done = subprocess.run([str(TOOLS / "record"), "-o", "/dev/null", "true"], capture_output=True, text=True, env={**os.environ, "TMPDIR": str(self.folder / "no")})
         self.assertEqual((done.returncode, done.stderr), (1, f"record: {self.folder / 'no'}: No such file or directory (TMPDIR names another folder)\n"))
 
+    def test_a_temporary_folder_that_takes_little(self) -> None:
+        valgrind.tool()  # which the limit would not let be built
+        limit = "import os, resource, sys; resource.setrlimit(resource.RLIMIT_FSIZE, (4095, 4095)); os.execv(sys.argv[1], sys.argv[1:])"
+        done = subprocess.run([sys.executable, "-c", limit, str(TOOLS / "record"), "-o", "/dev/null", "true"], capture_output=True, text=True,
+                              env={**os.environ, "TMPDIR": str(self.folder)})
+        self.assertEqual((done.returncode, done.stderr), (1, f"record: {self.folder}: File too large (TMPDIR names another folder)\n"))
+
     def test_words_and_names(self) -> None:
         self.assertIn("record: error: the following arguments are required: PROGRAM\n", run_tool("record").stderr)
         self.assertEqual(self.refused("a\nb"), "record: a\nb: no such program\n")
