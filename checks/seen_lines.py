@@ -14,7 +14,7 @@ if "kistalub_tracer" not in sys.modules:
     import fcntl, threading, types
     FOLDER, ENDS = {folder!r}, frozenset({ends!r})
     tracer = sys.modules["kistalub_tracer"] = types.ModuleType("kistalub_tracer")
-    state = {{"out": None, "known": set(), "names": {{}}}}
+    state = {{"out": None, "number": "", "known": set(), "names": {{}}}}
 
     def forget():
         if state["out"] is not None:
@@ -22,16 +22,28 @@ if "kistalub_tracer" not in sys.modules:
         state["out"] = None
         state["known"] = set()
 
+    def opened(name, more):
+        return os.open(FOLDER + "/" + name, os.O_WRONLY | os.O_CREAT | os.O_CLOEXEC | more, 0o666)
+
+    def written(row):
+        try:
+            return os.write(state["out"], row) == len(row)
+        except OSError:
+            return False
+
     def tell(key):
         state["known"].add(key)
+        row = key[0] + "\\t" + str(key[1])
         try:
             if state["out"] is None:
                 with open(FOLDER + "/current") as file:
-                    number = file.read()
-                low = os.open(FOLDER + "/" + number, os.O_WRONLY | os.O_APPEND | os.O_CREAT | os.O_CLOEXEC, 0o666)
+                    state["number"] = file.read()
+                low = opened(state["number"], os.O_APPEND)
                 state["out"] = fcntl.fcntl(low, fcntl.F_DUPFD_CLOEXEC, 300)
                 os.close(low)
-            os.write(state["out"], (key[0] + "\\t" + str(key[1]) + "\\n").encode())
+            if not written(("\\n" + row).encode()):
+                # no file may grow here, so an empty one has the row as its name
+                os.close(opened(state["number"] + "." + row.replace("/", "%"), 0))
         except OSError:
             pass
 
@@ -106,11 +118,14 @@ class Seen:
 
     @classmethod
     def read(cls, folder: Path, names: list[str]) -> Seen:
+        files = sorted(path.name for path in folder.iterdir())
         seen = cls()
         for number, name in enumerate(names, 1):
             path = folder / str(number)
             rows = path.read_text().splitlines() if path.exists() else []
-            seen.tests[name] = {(end, int(line)) for end, line in (row.split("\t") for row in rows)}
+            rows += [file.partition(".")[2].replace("%", "/") for file in files if file.startswith(f"{number}.")]
+            parts = [row.partition("\t") for row in rows]
+            seen.tests[name] = {(end, int(line)) for end, _, line in parts if line.isdigit()}  # a row may have been cut
         return seen
 
     def of_lines(self, file: str, lines: range) -> list[str]:

@@ -70,6 +70,10 @@ class One(unittest.TestCase):
 
     def test_nothing(self):
         pass
+
+    def test_with_little_room_for_files(self):
+        limit = "import resource, sys; resource.setrlimit(resource.RLIMIT_FSIZE, (40, 40)); sys.path.append('parts'); import some; some.double(9)"
+        subprocess.run([sys.executable, "-I", "-S", "-c", limit], check=True)
 """
 
 
@@ -95,12 +99,12 @@ class Mutants(InFolder):
         self.assertEqual(subprocess.run(words, cwd=self.folder, capture_output=True, text=True).returncode, 0)
         rows = [line.split("\t") for line in (self.folder / "result").read_text().splitlines()]
         names = [row[2] for row in rows]
-        self.assertEqual(([row[0] for row in rows], names), (["passed"] * 3, [f"test_some.One.{name}" for name in ("test_here", "test_in_another_process", "test_nothing")]))
+        self.assertEqual(([row[0] for row in rows], names), (["passed"] * 4, [f"test_some.One.test_{name}" for name in ("here", "in_another_process", "nothing", "with_little_room_for_files")]))
         tests = Seen.read(seen, names)
         content = MODULE.encode()
         of_line = {line: [name.rpartition("_")[2] for name in tests.of_lines("parts/some.py", lines)] for line, lines in lines_of_statements(content).items()}
-        self.assertEqual([of_line[line] for line in (3, 7, 8, 10, 11, 16)], [["here", "process"], ["here", "process"], ["process"], ["here"], ["here"], []])
-        self.assertEqual(tests.of_functions("parts/some.py", content), names[:2])
+        self.assertEqual([of_line[line] for line in (3, 7, 8, 10, 11, 16)], [["here", "process", "files"], ["here", "process", "files"], ["process", "files"], ["here"], ["here"], []])
+        self.assertEqual(tests.of_functions("parts/some.py", content), [*names[:2], names[3]])
         self.assertEqual(module_lines(content) & set(range(1, 18)), {1, 2, 3, 4, 5, 6, 13, 14, 15, 17})
 
     def test_the_first_test_that_fails_is_the_last(self) -> None:
