@@ -7,7 +7,7 @@ import subprocess
 import unittest
 
 from parts.command import Fault
-from parts.definitions import statements
+from parts.definitions import Definitions as DefinitionsOf, Place as Named, statements
 from parts.definitions_page import guide_page, read_guide, total_line
 from tests.support import TOOLS, InFolder, some
 
@@ -79,6 +79,13 @@ class Definitions(InFolder):
         self.write("crates/low/specs/Numbers.antt", LOW_SPECS.replace("-- the number", "-- tools/make_x: begin\n-- the number").replace("number Second", "-- tools/make_x: end\nnumber Second"))
         self.write("crates/low/src/kind.rt", "// tools/make_x: begin\n" + FILES["crates/low/src/kind.rt"])
         self.assertEqual(said(), before)
+
+    def test_a_variant_is_of_its_type_in_its_file(self) -> None:
+        for module, name, of_type in (
+            ("low.specs.declared.kind.Kind.TheVariants", "First", ("low.specs.declared.kind", "Kind")), ("low.specs.declared.limits.TheConstants", "MOST", ("low.specs.declared.limits", "MOST")),
+            ("low.specs.declared.kind.Kind", "Kind", ("low.specs.declared.kind", "Kind")), ("low.specs.declared.a.b.Kind.TheVariants", "First", ("low.specs.declared.a.b", "Kind")),
+        ):
+            self.assertEqual(DefinitionsOf.type_of(Named(module, name)), Named(*of_type))
 
     def test_what_a_crate_holds_keeps_its_capitals(self) -> None:
         self.assertIn("\nNumbers of PAPI. ", guide_page(read_guide(self.folder)))

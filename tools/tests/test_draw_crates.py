@@ -2,11 +2,12 @@
 
 from __future__ import annotations
 
+import re
 import unittest
 from xml.etree import ElementTree
 
 from parts.crate_graph import BOX_GAP, lay_out, levels, nearest, read_crates
-from parts.crate_picture import draw_crates
+from parts.crate_picture import GROUPS, _legend, draw_crates
 from tests.support import ROOT, InFolder, run_tool
 
 SVG = "{http://www.w3.org/2000/svg}"
@@ -51,6 +52,13 @@ class Picture(unittest.TestCase):
         picture = draw_crates({**CITED, "tool_tests": ["app"], "crate_tests": ["app"]})
         self.assertIn("Not drawn are the tests: crate_tests, tool_tests.", picture)
         self.assertNotIn("Not drawn", draw_crates(CITED))
+
+    def test_the_groups_end_before_the_margin(self) -> None:
+        cited = {names[0]: [] for names in GROUPS.values()}
+        for width in range(300, 900, 10):
+            texts = re.findall(r'<text class="quiet" x="([0-9.]+)"[^>]*>([^<]*)<', "".join(_legend(cited, width)))
+            self.assertEqual(len(texts), len(GROUPS))
+            self.assertEqual([text for x, text in texts if float(x) + 6.4 * len(text) > width], [], width)
 
     def test_a_picture_that_is_out_of_date(self) -> None:
         done = run_tool("draw_crates", "--check", str(ROOT / "crates.txt"))

@@ -152,6 +152,10 @@ class Manuals(unittest.TestCase):
         for line in (".Dt PAPI_SOME 1", ".Op Ar OPTIONS", ".It Ar PROGRAM", ".It Fl \\-out Ar A,B", "Where %r is.", ".It Fl \\-kind Ar one\\||two", ".It 0"):
             self.assertIn(line, page)
 
+    def test_a_summary_shows_as_it_is(self) -> None:
+        page = command_page(argparse.ArgumentParser(prog="some"), Page("reads a\\b-c", "", (), ()), "January 1, 2026").splitlines()
+        self.assertIn(".Nd reads a\\eb\\-c", page)
+
 
 if __name__ == "__main__":
     unittest.main()

@@ -10,6 +10,7 @@ from typing import Any, Iterator, cast
 from parts import unit_file
 from parts.command import Fault
 from parts.event_counters import EventCounters
+from parts.left_out import Account
 from parts.libpfm4 import Event, Libpfm4, Pmu
 from parts.linux_source import PROCESSORS, Processor, find_sources
 from parts.perf_events import Places, read_event_files
@@ -40,6 +41,28 @@ class WideCode(unittest.TestCase):
         converter = Converter(cast(Any, WideCodes()), Pmu("p", "A pmu", "other", 2, 4, 0, 0))
         self.assertEqual([event.name for event in converter.unit().events], ["PLAIN"])
         self.assertEqual(converter.account.names, {"WIDE": "the code has more than 8 bits and no umask"})
+
+
+class Names:
+    """What stands for libpfm4: two events, of which one has no name of a unit file."""
+
+    def events(self, pmu: Pmu) -> Iterator[Event]:
+        return (Event(name, "An event", ()) for name in ("PLAIN", "WITH,COMMA"))
+
+    def encode(self, name: str) -> tuple[int, ...]:
+        return (ALWAYS | 0xC0,)
+
+
+class EventNames(unittest.TestCase):
+    def test_a_name_that_a_unit_file_cannot_say(self) -> None:
+        converter = Converter(cast(Any, Names()), Pmu("p", "A pmu", "other", 2, 4, 0, 0))
+        self.assertEqual([event.name for event in converter.unit().events], ["PLAIN"])
+        self.assertEqual(converter.account.names, {"WITH,COMMA": "the name is not one of a unit file"})
+
+    def test_the_architecture_s_events_are_of_intel_s_cores(self) -> None:
+        for description, kind, more in (("Intel Some", "core", True), ("AMD64 Some", "core", False), ("Intel Some Uncore", "uncore", False)):
+            converter = Converter(cast(Any, Names()), Pmu("p", description, kind, 2, 4, 0, 0))
+            self.assertEqual(len(list(converter.source_events())) > 2, more, description)
 
 
 class UnitFile(unittest.TestCase):
@@ -294,6 +317,7 @@ class RealProcessors(InFolder):
         rows = self.rows("skl", "--width", "16", "--events", SAMPLE)
         self.assertRegex(rows[[row.startswith("# counters: ") for row in rows].index(True)], r"^# counters: 10 of [0-9]{3} codes have theirs in the event files$")
         self.assertEqual([row for row in rows if row.startswith("COUNTER")][3:5], ["COUNTER,P3,16,P", "COUNTER,F0,16,F"])
+        self.assertNotIn("hyperthreading", rows[1])  # the files say which counters there are
         self.assertTrue(self.row(rows, "EVENT,INST_RETIRED").startswith("EVENT,INST_RETIRED,c0,P0 P1 P2 P3 F0,"))
         self.assertTrue(self.row(rows, "EVENT,L1D_PEND_MISS").startswith("EVENT,L1D_PEND_MISS,48,P0 P1 P2 P3,"))
         instructions = rows[rows.index(self.row(rows, "EVENT,INST_RETIRED")) :]
@@ -314,11 +338,28 @@ class RealProcessors(InFolder):
         rows = self.rows("skl", "--counters", "4")
         self.assertEqual([row.split(",")[1] for row in rows if row.startswith("COUNTER")], ["P0", "P1", "P2", "P3", "F0", "F1", "F2"])
         self.assertIn("the first 4 of 8 programmable counters", rows[1])
+        self.assertNotIn("hyperthreading", rows[1])
         self.assertTrue(self.row(rows, "EVENT,INSTRUCTION_RETIRED").startswith("EVENT,INSTRUCTION_RETIRED,c0,P0 P1 P2 P3 F0,"))
         rows = self.rows("skl", "--counters", "2", "--events", SAMPLE)
         self.assertTrue(self.row(rows, "EVENT,INST_RETIRED").startswith("EVENT,INST_RETIRED,c0,P0 P1 F0,"))
         self.assertFalse(any(row.startswith("UMASK,PENDING,") for row in rows))
         self.assertTrue(any(row.endswith(": the unit does not have its counters") for row in rows))
+
+    def test_an_event_without_umasks_whose_counters_are_not_there(self) -> None:
+        far = self.write("far.json", '[{"EventName": "FAR", "EventCode": "0xC4", "Counter": "5", "BriefDescription": "On the sixth counter"}]')
+        for counters, reason in (("4", "the unit does not have its counters"), ("8", None)):
+            told = dict(line.split(": ", 1) for line in self.rows("skl", "--counters", counters, "--events", far, "--left-out"))
+            self.assertEqual(told.get("BRANCH_INSTRUCTIONS_RETIRED"), reason, counters)
+
+    def test_a_umask_of_another_select_code(self) -> None:
+        told = dict(line.split(": ", 1) for line in self.rows("icl", "--left-out"))
+        self.assertEqual(told["TOPDOWN:SLOTS_P"], "the umask changes the select code")
+
+    def test_modifiers_that_some_events_lack(self) -> None:
+        account = Account()
+        for modifiers in ({"u", "k", "e", "i", "c"}, {"u", "k", "e", "i", "c", "t"}, {"u", "k"}, set()):
+            account.count_modifiers(modifiers)
+        self.assertEqual(account.lines(False), ["left out: modifier t of 1 event", "taken all the same: the modifiers u k e i c, of which libpfm4 lacks some for 2 events"])
 
     def test_list(self) -> None:
         self.assertRegex("\n".join(self.rows("--list")), r"(?m)^skl +core +\d+ events +8 \+ 3 counters +Intel Skylake$")

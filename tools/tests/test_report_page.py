@@ -7,6 +7,7 @@ import subprocess
 import unittest
 from pathlib import Path
 from typing import Sequence
+from unittest import mock
 
 from formats.scripts import calls_of
 from parts.profile import Bucket, FunctionHits, Profile
@@ -92,6 +93,14 @@ class Parts(unittest.TestCase):
         self.assertEqual([round((place - first) / (last - first), 2) for place in (bar, zeroed, bar + wide)], [0.25, 0.5, 0.75])
         self.assertIn("<title>set 0 ran from 25 to 75: X</title>", made)
         self.assertIn("<title>zeroed at 50</title>", made)
+        top, high = (float(re.findall(rf'class="bar fill0"[^>]* {place}="([0-9.]+)"', made)[0]) for place in ("y", "height"))
+        self.assertTrue(0 <= top and top + high < float(re.findall(r'class="axis"[^>]* y1="([0-9.]+)"', made)[0]), top)
+
+    def test_one_occurrence_fills_its_line(self) -> None:
+        span = Span(0, 0, Setup(("X",)), 0, 1, [])
+        made = draw_timelines(Story(setups={(0, 0): span.setup}, spans=[span], positions={0: 1}), {}, lambda _: None, {0: Time()})[0]
+        first, last = (float(re.findall(rf'class="axis"[^>]* {place}="([0-9.]+)"', made)[0]) for place in ("x1", "x2"))
+        self.assertEqual(float(re.findall(r'class="bar fill0"[^>]* width="([0-9.]+)"', made)[0]), last - first)
 
     def test_where_thresholds_were_passed_is_told(self) -> None:
         span = Span(0, 0, Setup(("X",)), 0, 2000, [], [], [Passing(after, upto, Note(0, 0, 0, at)) for after, upto, at in ((3, 4, "0x4"), (999, 1200, "0x8"), (999, 1200, "0xc"))])
@@ -183,6 +192,12 @@ class Limits(InFolder):
         made = "".join(profiles._lines(with_program, profile, places)) if profiles.has_addr2line() else ""
         if made:
             self.assertEqual((made.count("absent.c:") // 2, "Left out: 3 lines more." in made), (40, True))
+
+    def test_lines_of_source_want_addr2line(self) -> None:
+        profile = Profile([FunctionHits("f", 1, [Bucket(0, 1)])], 0, 1)
+        with mock.patch("parts.report.profiles.has_addr2line", return_value=False):
+            made = profiles._lines(Place(None, "a"), profile, {})
+        self.assertEqual(made, ['<p class="quiet">Lines of source are left out: addr2line is not installed (apt-get install binutils).</p>'])
 
     @needs_program
     def test_sixty_pictures_of_a_kind(self) -> None:
@@ -301,4 +316,5 @@ class Source(InFolder):
         told = text_of([page.partition('id="profile"')[2].partition("</section>")[0]])
         self.assertIn("twice 3 100.0 % 100.0 % at a.c:1", told)
         self.assertIn("a.c:1 twice 3 100.0 % int twice(int x) {", told)
+        self.assertRegex(page, r'100\.0 % at <code title="[^"]*/a\.c:1">a\.c:1</code>')
         self.assertEqual(Path(source).name, "a.c")
