@@ -14,6 +14,7 @@ static void *read_infos(void *unused) {
         WANT(info != NULL, 1);
         WANT(info->default_domain, PAPI_DOM_USER);
         WANT(info->num_cntrs, 3);
+        WANT(info->initialized, 1);
         WANT(PAPI_add_named_event(set, "PACKETS"), PAPI_ENOEVNT);
         WANT(PAPI_get_hardware_info()->ncpu, 1);
         WANT(PAPI_get_shared_lib_info() != NULL, 1);

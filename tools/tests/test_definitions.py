@@ -87,6 +87,17 @@ class Definitions(InFolder):
         ):
             self.assertEqual(DefinitionsOf.type_of(Named(module, name)), Named(*of_type))
 
+    def test_a_module_that_hands_a_name_on(self) -> None:
+        before = {it.place for it in some(read_guide(self.folder).definitions)}
+        self.write("crates/low/specs/Handing.antt", "use Rattle.low.specs.Numbers.{number}\n")
+        self.write("crates/papi_tools/specs/Top.antt", TOP_SPECS.replace("specs.Numbers as", "specs.Handing as"))
+        self.assertEqual({it.place for it in read_guide(self.folder).definitions}, before)
+
+    def test_a_type_of_the_crate_s_first_file(self) -> None:
+        self.write("crates/low/src/lib.rt", "mod kind;\n\n/// At the top.\npub enum Root {\n    One,\n}\n")
+        self.write("crates/papi_tools/specs/Top.antt", TOP_SPECS.replace("kind.Kind.{Kind}", "Root.{Root}").replace("(k : Kind)", "(k : Root)"))
+        self.assertIn("Root", {it.place.name for it in read_guide(self.folder).definitions})
+
     def test_what_a_crate_holds_keeps_its_capitals(self) -> None:
         self.assertIn("\nNumbers of PAPI. ", guide_page(read_guide(self.folder)))
 

@@ -12,7 +12,7 @@ from parts.command import Fault
 from parts.event_counters import EventCounters
 from parts.left_out import Account
 from parts.libpfm4 import Event, Libpfm4, Pmu
-from parts.linux_source import PROCESSORS, Processor, find_sources
+from parts.linux_source import PROCESSORS, Constraint, ConstraintTable, Processor, find_sources
 from parts.perf_events import Places, read_event_files
 from parts.preset_umasks import read_umasks
 from parts.unit_of_pmu import ALWAYS, Converter
@@ -220,6 +220,12 @@ class KernelTables(InFolder):
         for constraints, wanted in ((None, {0, 2, 3}), (sources.constraints, {1})):
             self.assertEqual(EventCounters(4, 3, read_event_files(sources.events), constraints).places((0xC0, 0x01), total), places(wanted, set()))
 
+    def test_modifiers_stand_where_the_register_has_them(self) -> None:
+        """Intel's event select registers: the edge at bit 18, invert at 23, and the least amount from 24 on."""
+        for bit, modifiers in ((18, unit_file.Fixed(edge=True)), (23, unit_file.Fixed(invert=True, amount=0)), (24, unit_file.Fixed(amount=1))):
+            table = ConstraintTable([Constraint(0xC0 | 1 << bit, 0, 0xFF | 1 << bit, 0b10)])
+            self.assertEqual([table.places((0xC0, 0x00), given, 4) for given in (modifiers, unit_file.NOTHING_FIXED)], [places({1}, set()), None], bit)
+
     def test_a_processor_whose_files_name_no_counters(self) -> None:
         path = self.folder / "linux/tools/perf/pmu-events/arch/x86/amdzen2/core.json"
         path.parent.mkdir(parents=True)
@@ -287,6 +293,7 @@ class RealProcessors(InFolder):
         halves = [row for row in rows if row.startswith("# taken without its second register: ")]
         self.assertEqual(len(halves), 1)
         self.assertIn("FRONTEND_RETIRED:DSB_MISS", listed - told.keys())
+        self.assertEqual(listed & {"BR_INST_RETIRED:CONDITIONAL", "BRANCH_INSTRUCTIONS_RETIRED"}, set())
 
     def test_umasks_that_stay_for_a_preset_file(self) -> None:
         presets = self.write("presets", "CPU,skl\nPRESET,PAPI_CA_SNP,NOT_DERIVED,OFFCORE_RESPONSE_0:SNP_ANY\nPRESET,PAPI_L2_TCW,NOT_DERIVED,L2_RQSTS:rfo_hit\n")
@@ -357,9 +364,9 @@ class RealProcessors(InFolder):
 
     def test_modifiers_that_some_events_lack(self) -> None:
         account = Account()
-        for modifiers in ({"u", "k", "e", "i", "c"}, {"u", "k", "e", "i", "c", "t"}, {"u", "k"}, set()):
+        for modifiers in ({"u", "k", "e", "i", "c"}, {"u", "k", "e", "i", "c", "t"}, {"u", "k"}, {"u"}, set()):
             account.count_modifiers(modifiers)
-        self.assertEqual(account.lines(False), ["left out: modifier t of 1 event", "taken all the same: the modifiers u k e i c, of which libpfm4 lacks some for 2 events"])
+        self.assertEqual(account.lines(False), ["left out: modifier t of 1 event", "taken all the same: the modifiers u k e i c, of which libpfm4 lacks some for 3 events"])
 
     def test_list(self) -> None:
         self.assertRegex("\n".join(self.rows("--list")), r"(?m)^skl +core +\d+ events +8 \+ 3 counters +Intel Skylake$")

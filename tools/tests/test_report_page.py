@@ -16,7 +16,7 @@ from parts.report.asking import Tables, Tools
 from parts.report.curves import draw_curves
 from parts.report.exact import COUNTERS, exact_story, unlimited_unit
 from parts.report.making import Asked, make_report
-from parts.report.matrix import Picture, Row, draw_alone
+from parts.report.matrix import LETTER, Picture, Row, draw_alone
 from parts.report.page import POLICY, Section, make_page
 from parts.report.profiles import Place, draw_profiles
 from parts.report.ratios import draw_ratios
@@ -101,6 +101,7 @@ class Parts(unittest.TestCase):
         made = draw_timelines(Story(setups={(0, 0): span.setup}, spans=[span], positions={0: 1}), {}, lambda _: None, {0: Time()})[0]
         first, last = (float(re.findall(rf'class="axis"[^>]* {place}="([0-9.]+)"', made)[0]) for place in ("x1", "x2"))
         self.assertEqual(float(re.findall(r'class="bar fill0"[^>]* width="([0-9.]+)"', made)[0]), last - first)
+        self.assertEqual(made.count('class="grid"'), made.count('text-anchor="middle"'))  # a line for each number of the axis
 
     def test_where_thresholds_were_passed_is_told(self) -> None:
         span = Span(0, 0, Setup(("X",)), 0, 2000, [], [], [Passing(after, upto, Note(0, 0, 0, at)) for after, upto, at in ((3, 4, "0x4"), (999, 1200, "0x8"), (999, 1200, "0xc"))])
@@ -219,6 +220,8 @@ class Limits(InFolder):
         self.assertEqual([(name[0], name[-1], len(name) < 20) for name in shown], [("A", "\u2026", True), ("B", "\u2026", True)])
         self.assertIn(f"<title>{counters[1].name}</title>", picture)
         self.assertEqual(picture.count(">fixed<"), 2)
+        first, second = (float(x) for x in re.findall(r'class="m-name [^>]* x="([0-9.]+)"', picture)[:2])
+        self.assertEqual([name for name in shown if len(name) * LETTER > second - first], [])
 
 
 class Exact(InFolder):
@@ -290,7 +293,7 @@ class Times(InFolder):
         stream = self.write("stream", "0 c1 00 u 3 1\n" * 1000)
         with Tools(Tables(self.write("unit", UNIT))) as tools:
             time = times_of(tools, {0: 1000}, lambda _: Clock(), [stream])[0]
-        self.assertEqual([time.at(position) for position in (0, 1, 499, 1000)], [0, 3, 1497, 3000])
+        self.assertEqual([time.at(position) for position in (0, 1, 499, 998, 1000)], [0, 3, 1497, 2994, 3000])
 
     def test_stamps_go_before_cycles(self) -> None:
         stream = self.write("stream", "version 2\n0 c1 00 u 9 1 4\n0 c1 00 u 9 1 6\n")
