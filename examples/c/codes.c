@@ -70,6 +70,9 @@ int main(void) {
     WANT(PAPI_create_eventset(&main_set), PAPI_OK);
     WANT(main_set, 3);
     WANT(PAPI_add_event(main_set, PAPI_NATIVE_MASK), PAPI_ENOEVNT);
+    WANT(PAPI_event_name_to_code("PAPI_L1_DCM", &inst), PAPI_OK); /* the first preset */
+    WANT(inst, PAPI_L1_DCM);
+    WANT(PAPI_query_event(PAPI_PRESET_MASK | PAPI_MAX_PRESET_EVENTS), PAPI_ENOTPRESET);
     WANT(PAPI_event_name_to_code("INST_RETIRED", &inst), PAPI_OK);
     WANT(PAPI_event_name_to_code("CYCLES", &cycles), PAPI_OK);
     WANT(PAPI_event_name_to_code("MEM:LOADS", &loads), PAPI_OK);

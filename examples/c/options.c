@@ -70,6 +70,9 @@ static void granularities(int set) {
     WANT(PAPI_get_opt(PAPI_GRANUL, &o), PAPI_OK);
     WANT(o.granularity.granularity, PAPI_GRN_THR);
     WANT(PAPI_set_opt(PAPI_GRANUL, &o), PAPI_OK);
+    o.granularity.eventset = 99;
+    o.granularity.granularity = PAPI_GRN_MAX;
+    WANT(PAPI_set_opt(PAPI_GRANUL, &o), PAPI_ENOEVST);
 }
 
 static void multiplexing(int set) {
@@ -137,10 +140,12 @@ static void others(int set) {
 
 int main(void) {
     int set = PAPI_NULL, later = PAPI_NULL;
+    void *device = NULL;
     WANT(PAPI_get_opt(PAPI_LIB_VERSION, NULL), PAPI_VERSION);
     WANT(PAPI_get_opt(PAPI_MAX_HWCTRS, NULL), PAPI_ENOINIT);
     WANT(PAPI_set_opt(PAPI_DOMAIN, &o), PAPI_ENOINIT);
     WANT(PAPI_multiplex_init(), PAPI_ENOINIT);
+    WANT(PAPI_enum_dev_type(PAPI_DEV_TYPE_ENUM__CPU, &device), PAPI_ENOINIT);
     WANT(PAPI_library_init(PAPI_VERSION_NUMBER(7, 2, 0, 0)), PAPI_VERSION_NUMBER(7, 2, 0, 0));
     WANT(PAPI_create_eventset(&set), PAPI_OK);
     domains(set);

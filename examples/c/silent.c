@@ -1,5 +1,6 @@
 /* A native event that no line of the stream counts for is told once, when a set with it is started; a preset's natives are too. Each allocation of such a life is
  * refused in turn: the call answers PAPI_ENOMEM, and nothing is left. With KISTALUB_HINTS=0 nothing is told. */
+#define _DEFAULT_SOURCE
 #include "kistalub.h"
 #include "papi.h"
 #include "refusing.h"
@@ -53,6 +54,21 @@ static int each_refused(void) {
     return refusals == k - 1 && refusals > 0;
 }
 
+/* Nothing is told of a stream with more than 4096 heads, of which the last is the one that counts. */
+static void many_heads(void) {
+    char path[] = "/tmp/kistalub_heads_XXXXXX";
+    FILE *f = fdopen(mkstemp(path), "w");
+    WANT(f != NULL, 1);
+    for (int head = 0; head < 4096; head++) fprintf(f, "0 %02x %02x u 1 1\n", 0x10 + head / 256, head % 256);
+    fputs("0 c0 00 u 1 1\n", f);
+    WANT(fclose(f), 0);
+    setenv("KISTALUB_STREAM", path, 1);
+    MADE(PAPI_library_init(PAPI_VER_CURRENT), PAPI_VER_CURRENT);
+    count("INST_RETIRED", 0);
+    PAPI_shutdown();
+    unlink(path);
+}
+
 int main(void) {
     int errors = dup(2), nothing = open("/dev/null", O_WRONLY);
     dup2(nothing, 2);
@@ -63,5 +79,7 @@ int main(void) {
     life();
     setenv("KISTALUB_HINTS", "0", 1);
     life();
+    setenv("KISTALUB_HINTS", "1", 1);
+    many_heads();
     return !all;
 }
