@@ -288,8 +288,10 @@ be_strict() {
 run_again() (
     . "$hints/silent.sh"
     split_words "$@" && [ -n "$streams" ] || exit
+    set -- -U "$unit"
+    [ -z "$presets" ] || set -- "$@" -P "$presets" -C "$cpu"
     set -f
     IFS=$NEWLINE
     # shellcheck disable=SC2086
-    run_program papi_run -U "$unit" ${presets:+-P "$presets"} ${presets:+-C "$cpu"} -- "$script" $streams 2>/dev/null
+    run_program papi_run "$@" -- "$script" $streams 2>/dev/null
 )

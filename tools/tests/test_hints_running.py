@@ -251,10 +251,18 @@ class Running(InFolder):
     def test_strict_of_a_profile_runs_the_script_for_its_refusals(self) -> None:
         for name, text in FILES.items():
             self.write(name, text)
-        self.program('if [ "$1" = papi_run ]; then echo "$@" >ran; echo "2 0 add PAPI_ENOEVNT"; else echo total 3; fi')
-        done = subprocess.run([str(self.bin / "papi_profil"), *"--strict -U u -M m --set 0 -P p -C small s t".split()], cwd=self.folder, capture_output=True)
+        self.write("a unit", FILES["u"])
+        self.program('if [ "$1" = papi_run ]; then printf "%s," "$@" >ran; echo "2 0 add PAPI_ENOEVNT"; else echo total 3; fi')
+        done = subprocess.run([str(self.bin / "papi_profil"), "--strict", "-U", "a unit", *"-M m --set 0 -P p -C small s t".split()], cwd=self.folder, capture_output=True)
         self.assertEqual((done.stdout, done.returncode), (b"total 3\n", 1))
-        self.assertEqual((self.folder / "ran").read_text(), "papi_run -U u -P p -C small -- s t\n")
+        self.assertEqual((self.folder / "ran").read_text(), "papi_run,-U,a unit,-P,p,-C,small,--,s,t,")
+
+    def test_a_temporary_folder_of_two_words(self) -> None:
+        self.temporary = self.folder / "two words"
+        self.temporary.mkdir()
+        self.program("echo out", "echo line >&2", "exit 1")
+        self.assertEqual(self.start().communicate(), (b"out\n", b"line\n"))
+        self.assertEqual(list(self.temporary.iterdir()), [])
 
     def test_bytes_of_all_kinds(self) -> None:
         everything = bytes(number for number in range(1, 256))

@@ -81,6 +81,7 @@ class Install(InFolder):
         for file in some((ROOT / "completions").iterdir()):
             suffixed = re.sub("|".join(TOOLS), lambda found: f"{found[0]}-x", file.read_text())
             self.assertEqual((self.prefix / "share/kistalub/completions" / file.name).read_text(), suffixed)
+        self.assertTrue(os.access(self.prefix / "share/kistalub/completions/candidates", os.X_OK))
         self.assertIn(f"prefix={self.prefix}\n", (self.prefix / "lib/pkgconfig/kistalub.pc").read_text())
 
     def test_the_scripts_run_the_program(self) -> None:
