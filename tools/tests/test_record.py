@@ -11,19 +11,63 @@ import tempfile
 import unittest
 from collections import Counter
 from pathlib import Path
+from unittest import mock
 
 from parts import valgrind
 from parts.codes import RECORDED, SKYLAKE, codes_of
 from parts.command import Fault
+from parts.counting import Counting, _changes
 from parts.machine import MACHINES, Shape, read_buffer, read_cache, read_costs, read_predictor
 from parts.ranks import of_rank
 from tests.support import ROOT, TOOLS, InFolder, all_of, needs_command, needs_libpfm4, needs_program, run_program, run_tool, some
+
+
+class UnderValgrind(InFolder):
+    def test_the_stack_begins_at_one_place(self) -> None:
+        """Words, variables and the program's path stand above it, each with its end, and a pointer for each of the first two."""
+        for words in (["a"], ["/a/longer/path", "two words", ""]):
+            for changes in ({}, {"X": "1"}, {"LONG": "x" * 70_000}):
+                strings = [*words, *(f"{name}={value}" for name, value in valgrind.environment(words, changes).items())]
+                size = sum(len(os.fsencode(text)) + 1 + valgrind.POINTER for text in strings) + len(words[0]) + 1
+                self.assertEqual(size % valgrind.STACK_ROOM, 0, (words, len(strings)))
+
+    def test_the_tool_is_kept_in_the_folder_for_caches(self) -> None:
+        home, cache = self.folder / "home", self.folder / "cache"
+        with mock.patch.dict(os.environ, {"HOME": str(home)}):
+            os.environ.pop("XDG_CACHE_HOME", None)
+            self.assertEqual(valgrind.cache_folder(), home / ".cache/kistalub")
+            os.environ["XDG_CACHE_HOME"] = str(cache)
+            self.assertEqual(valgrind.cache_folder(), cache / "kistalub")
+        self.assertTrue((home / ".cache/kistalub").is_dir() and (cache / "kistalub").is_dir())
+
+    def test_another_valgrind_has_another_tool(self) -> None:
+        versions = []
+        for text in ("one", "another"):
+            program = self.write("valgrind", text)
+            self.write("none-amd64-linux", text)
+            os.chmod(program, 0o755)
+            with mock.patch.dict(os.environ, {"PATH": str(self.folder)}), mock.patch("parts.valgrind.folder", return_value=self.folder):
+                versions.append(valgrind._version())
+        self.assertNotEqual(*versions)
+
+    def test_the_words_stand_in_groups(self) -> None:
+        for tool in ("record", "count"):
+            self.assertIn("\nthe stream:\n", run_tool(tool, "--help").stdout)
+
+    def test_libraries_that_the_environment_names_stay(self) -> None:
+        counting = Counting("a", [], next(iter(MACHINES.values())), str(self.folder), None, None, None, None, 1)
+        for before, wanted in ((None, f"{self.folder}"), ("/x:/y", f"{self.folder}:/x:/y")):
+            with mock.patch.dict(os.environ, {"LD_LIBRARY_PATH": before or ""}):
+                if before is None:
+                    del os.environ["LD_LIBRARY_PATH"]
+                self.assertEqual(_changes(counting)["LD_LIBRARY_PATH"], wanted)
 
 
 class Words(unittest.TestCase):
     def test_shapes(self) -> None:
         self.assertEqual(read_cache("32768,8,64"), Shape(512, 8, 64))
         self.assertEqual(read_buffer("64,4,4096"), Shape(64, 4, 4096))
+        self.assertEqual(read_cache("64,1,64"), Shape(1, 1, 64))
         self.assertIsNone(read_cache("none"))
         for text in ("32768", "a,8,64", "0,8,64", "1000,8,64", "768,4,64", "384,2,48", "65536,128,64"):
             with self.assertRaises(Fault, msg=text):
