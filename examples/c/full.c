@@ -1,4 +1,4 @@
-/* As much as there can be: a set of 32 events, of which the first is taken out, and regions that count on 16 components. */
+/* As much as there can be: a set of 32 events, of which the first is taken out, and regions that count on 16 components, or on one beside a set of the program. */
 #define _DEFAULT_SOURCE
 #include "papi.h"
 #include "wanted.h"
@@ -75,25 +75,35 @@ static int take_files(const char *below, const char *text) {
     return n;
 }
 
-/* The regions are written when a process ends. */
-static void count_on_each_component(void) {
-    char names[512] = "";
-    int status;
-    write_unit(COMPONENTS, 1);
-    for (int c = 0; c < COMPONENTS; c++) sprintf(names + strlen(names), "%sE%d_0", c ? "," : "", c);
+/* A region counts these events, in a process that has a set with an event of its own. The regions are written when it ends. */
+static void count(const char *names, const char *own) {
+    int status, set = PAPI_NULL;
     setenv("PAPI_EVENTS", names, 1);
     setenv("PAPI_OUTPUT_DIRECTORY", folder, 1);
     fflush(stdout);
     const pid_t child = fork();
     if (child == 0) {
+        WANT(PAPI_library_init(PAPI_VER_CURRENT), PAPI_VER_CURRENT);
+        WANT(PAPI_create_eventset(&set), PAPI_OK);
+        WANT(PAPI_add_named_event(set, own), PAPI_OK);
         WANT(PAPI_hl_region_begin("region"), PAPI_OK);
         WANT(PAPI_hl_region_end("region"), PAPI_OK);
         WANT(PAPI_hl_stop(), PAPI_OK);
+        WANT(PAPI_num_events(set), 1);
         exit(0);
     }
     WANT(waitpid(child, &status, 0), child);
     WANT(status, 0);
+}
+
+static void count_on_components(void) {
+    char names[512] = "";
+    write_unit(COMPONENTS, 1);
+    for (int c = 0; c < COMPONENTS; c++) sprintf(names + strlen(names), "%sE%d_0", c ? "," : "", c);
+    count(names, "E15_0");
     WANT(take_files("papi_hl_output", "\"E15_0\""), 1);
+    count("E0_0", "E15_0");
+    WANT(take_files("papi_hl_output", "\"E15_0\""), 0);
 }
 
 int main(void) {
@@ -108,7 +118,7 @@ int main(void) {
     setenv("KISTALUB_UNIT", unit, 1);
     setenv("KISTALUB_STREAM", stream, 1);
     take_out_the_first();
-    count_on_each_component();
+    count_on_components();
     WANT(unlink(unit) + unlink(stream), 0);
     WANT(rmdir(folder), 0);
     puts("all of it counts");

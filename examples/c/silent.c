@@ -54,17 +54,17 @@ static int each_refused(void) {
     return refusals == k - 1 && refusals > 0;
 }
 
-/* Nothing is told of a stream with more than 4096 heads, of which the last is the one that counts. */
-static void many_heads(void) {
+/* A stream whose last line alone counts for an event, of which nothing is told. */
+static void with_stream(int others, const char *last, const char *name) {
     char path[] = "/tmp/kistalub_heads_XXXXXX";
     FILE *f = fdopen(mkstemp(path), "w");
     WANT(f != NULL, 1);
-    for (int head = 0; head < 4096; head++) fprintf(f, "0 %02x %02x u 1 1\n", 0x10 + head / 256, head % 256);
-    fputs("0 c0 00 u 1 1\n", f);
+    for (int head = 0; head < others; head++) fprintf(f, "0 %02x %02x u 1 1\n", 0x10 + head / 256, head % 256);
+    fputs(last, f);
     WANT(fclose(f), 0);
     setenv("KISTALUB_STREAM", path, 1);
     MADE(PAPI_library_init(PAPI_VER_CURRENT), PAPI_VER_CURRENT);
-    count("INST_RETIRED", 0);
+    count(name, 0);
     PAPI_shutdown();
     unlink(path);
 }
@@ -80,6 +80,7 @@ int main(void) {
     setenv("KISTALUB_HINTS", "0", 1);
     life();
     setenv("KISTALUB_HINTS", "1", 1);
-    many_heads();
+    with_stream(1, "0 00 00 u 1 1\n", "REF");
+    with_stream(4096, "0 c0 00 u 1 1\n", "INST_RETIRED"); /* as many heads as are not asked */
     return !all;
 }
