@@ -9,12 +9,26 @@ from formats.rows import MOST_BUCKETS
 from parts.command import Fault
 from parts.map_file import ADDRESSES, MOST_RANGES, map_names, ranges_of
 from parts.stream_head import MOST_LINES, read_base
-from parts.symbols import Function, is_loaded_anywhere, read_functions
+from parts.symbols import Function, entry_of, is_loaded_anywhere, read_functions
 from tests.support import TOOLS, InFolder, all_of, needs_command, run_tool
 
 
 def rows(functions: list[Function], base: int = 0) -> list[str]:
     return [each.row() for each in ranges_of(functions, base)]
+
+
+class Heads(InFolder):
+    def test_where_a_program_of_this_kind_of_processor_begins(self) -> None:
+        """The head of an ELF file: its kind of program at 16, its machine at 18, and where it begins at 24."""
+        for bits, machine, is_known in ((2, 62, True), (1, 62, False), (2, 183, False)):
+            head = b"\x7fELF" + bytes([bits, 1, 1, *[0] * 9]) + b"".join(number.to_bytes(size, "little") for number, size in ((2, 2), (machine, 2), (1, 4), (0x401020, 8)))
+            program = self.folder / "program"
+            program.write_bytes(head)
+            if is_known:
+                self.assertEqual((entry_of(str(program)), is_loaded_anywhere(str(program))), (0x401020, False))
+            else:
+                with self.assertRaisesRegex(Fault, "not a program for x86-64"):
+                    entry_of(str(program))
 
 
 class Ranges(unittest.TestCase):
