@@ -70,6 +70,24 @@ class Package(InFolder):
         self.assertEqual([str(path) for path in unpacked.rglob("*") if path.is_symlink() and not path.exists()], [], "links to nothing")
         self.look_at_links(unpacked / "usr/share/doc/kistalub")
         self.look_at_flags(unpacked / "usr")
+        self.look_at_scripts(package)
+
+    def look_at_scripts(self, package: str) -> None:
+        """The module is compiled when the package is configured, and what was compiled goes with it, where Debian's programs for that are there."""
+        self.ask("--control", package, str(self.folder / "control"))
+        seen, path = self.folder / "seen", self.folder / "path"
+        path.mkdir()
+        for script, word, command, wanted in (
+            ("postinst", "configure", "py3compile", "-p kistalub\n"), ("postinst", "abort-upgrade", "py3compile", None), ("postinst", "configure", "none", None),
+            ("prerm", "remove", "py3clean", "-p kistalub\n"), ("prerm", "remove", "none", None),
+        ):
+            program = path / command
+            program.write_text(f'#!/bin/sh\necho "$@" >{seen}\n')
+            program.chmod(0o755)
+            done = subprocess.run(["/bin/sh", str(self.folder / "control" / script), word], env={"PATH": str(path)}, capture_output=True, text=True)
+            self.assertEqual((done.returncode, done.stderr, seen.read_text() if seen.exists() else None), (0, "", wanted), (script, word, command))
+            program.unlink()
+            seen.unlink(missing_ok=True)
 
     def look_at_links(self, folder: Path) -> None:
         """Each link of the documents leads to a file of the package."""

@@ -264,6 +264,14 @@ class Presets(unittest.TestCase):
 @needs_command("valgrind", "valgrind")
 @needs_command("cc", "a C compiler")
 class Missing(InFolder):
+    def test_a_program_that_is_a_head_alone(self) -> None:
+        program = self.folder / "head"
+        program.write_bytes(Path("/bin/true").resolve().read_bytes()[:64])
+        program.chmod(0o755)
+        done = run_tool("record", "-o", str(self.folder / "stream"), str(program))
+        self.assertEqual((done.returncode, done.stdout), (1, ""))
+        self.assertRegex(done.stderr, r"(?m)^record: .*/head can't be run under valgrind \(status -?\d+\)$")
+
     def test_what_is_not_installed_is_named(self) -> None:
         """The tool of Valgrind is built in the last case, so that no compiler is asked for."""
         valgrind.tool()
