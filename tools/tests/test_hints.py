@@ -11,6 +11,7 @@ import tempfile
 import unittest
 from pathlib import Path
 
+from errors import _missing_file_hints
 from formats.presets import SYMBOLS
 from formats.scripts import CALLS, REGION_CALLS
 from formats.texts import LONGEST, cut, plain
@@ -180,6 +181,13 @@ class Scripts(InFolder):
         (self.folder / "other").symlink_to("link")
         for words in ("./link s t", f"{self.folder}/other s t", "PATH=.:$PATH; link s t", "cd bin; sh papi_run s t"):
             self.assertEqual(self.call(words), (0, b"papi_run s t\n", b""), words)
+
+
+class MissingFiles(InFolder):
+    def test_a_folder_with_a_long_path_is_cut(self) -> None:
+        folder = self.folder / ("a" * 200)
+        folder.mkdir()
+        self.assertEqual(_missing_file_hints(f"{folder}/unit"), [f'{str(folder)[:LONGEST]}.. has no file "unit"'])
 
 
 class Lists(InFolder):
