@@ -3,6 +3,8 @@
 #include "papi.h"
 #include "wanted.h"
 #include <dirent.h>
+#include <pthread.h>
+#include <stdint.h>
 #include <string.h>
 #include <sys/stat.h>
 #include <sys/wait.h>
@@ -238,11 +240,37 @@ static void ranks(void) {
     has_two("0", "papi_hl_output/rank_000000.json", "papi_hl_output/rank_000000-2.json", "papi_hl_output/rank_000001.json");
 }
 
+static void *counts_by_name(void *name) {
+    region(name);
+    return NULL;
+}
+
+/* Threads of libraries that come one after the other have the same number. */
+static void is_in_libraries(void) {
+    static const char *const names[] = { "last_name", "first_name" };
+    for (int i = 0; i < 2; i++) {
+        pthread_t thread;
+        WANT(PAPI_library_init(PAPI_VER_CURRENT), PAPI_VER_CURRENT);
+        WANT(pthread_create(&thread, NULL, counts_by_name, (void *)(uintptr_t)names[i]), 0);
+        WANT(pthread_join(thread, NULL), 0);
+        PAPI_shutdown();
+    }
+}
+
+/* They are written in the order in which they began. */
+static void order(void) {
+    run(is_in_libraries);
+    WANT(times("papi_hl_output/rank_000000.json", "last_name"), 1);
+    WANT(strstr(text, "last_name") < strstr(text, "first_name"), 1);
+    take_away("papi_hl_output");
+}
+
 int main(void) {
     WANT(mkdtemp(above) != NULL, 1);
     setenv("PAPI_OUTPUT_DIRECTORY", above, 1);
     setenv("PAPI_EVENTS", "INST_RETIRED", 1);
     ranks();
+    order();
     stops();
     events();
     paths();
