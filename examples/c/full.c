@@ -77,7 +77,7 @@ static int take_files(const char *below, const char *text) {
 
 /* A region counts these events, in a process that has a set with an event of its own. The regions are written when it ends. */
 static void count(const char *names, const char *own) {
-    int status, set = PAPI_NULL;
+    int status, set = PAPI_NULL, event, left = 0, number = 1;
     setenv("PAPI_EVENTS", names, 1);
     setenv("PAPI_OUTPUT_DIRECTORY", folder, 1);
     fflush(stdout);
@@ -89,7 +89,10 @@ static void count(const char *names, const char *own) {
         WANT(PAPI_hl_region_begin("region"), PAPI_OK);
         WANT(PAPI_hl_region_end("region"), PAPI_OK);
         WANT(PAPI_hl_stop(), PAPI_OK);
-        WANT(PAPI_num_events(set), 1);
+        WANT(PAPI_event_name_to_code(own, &event), PAPI_OK);
+        WANT(PAPI_list_events(set, &left, &number), PAPI_OK);
+        WANT(number, 1);
+        WANT(left, event);
         exit(0);
     }
     WANT(waitpid(child, &status, 0), child);
