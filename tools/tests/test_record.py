@@ -199,6 +199,11 @@ class RealProgram(InFolder):
         self.assertGreaterEqual(found["c4 a5"] + found["c4 15"], 16)
         self.assertEqual(found["c4 2c"], 1)
 
+    def test_from_a_function_that_is_never_entered(self) -> None:
+        program = self.compile("more", "-static", "-fno-pie", "-no-pie", self.write("rest.c", "void rest(void) { }\n"))
+        done = run_tool("record", "--from", "rest", "-o", self.stream, program)
+        self.assertEqual((done.returncode, done.stderr), (1, f"record: {program} never entered rest\n"))
+
     def test_a_program_that_is_loaded_anywhere(self) -> None:
         """The first instruction is where make_map has the function."""
         program = self.compile("anywhere", "-static-pie", "-fpie")

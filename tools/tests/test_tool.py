@@ -290,6 +290,8 @@ class Lines(Recording):
         each = self.record("--each", program)
         for window in (13, 5000):
             self.assertEqual(self.record("--window", str(window), program), gathered(each, window), window)
+        self.assertEqual(self.record(program), gathered(each, 65_536))
+        self.assertNotEqual(self.record(program), gathered(each, 65_537))
 
     def test_without_a_machine_nothing_misses(self) -> None:
         program = self.compile("sample")
