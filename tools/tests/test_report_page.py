@@ -185,6 +185,12 @@ class Limits(InFolder):
                 self.assertEqual((made.count("<tr>") - 1, f"{addresses - 20} address" in made and "more." in made), (rows, more))
                 self.assertTrue(made.startswith('<section data-thread="0" data-set="0.0">'), made[:60])
 
+    @needs_program
+    def test_the_numbers_of_a_profile_have_their_commas(self) -> None:
+        with Tools(Tables(LAB)) as tools:
+            made = draw_profiles(tools, Place(), "s", ["t"], [Note(0, 0, 0, "0x1")] * 1234, {})
+        self.assertIn('<td class="number" data-label="overflows">1,234</td>', "".join(made))
+
     def test_forty_lines_are_listed(self) -> None:
         buckets = [Bucket(number, 1) for number in range(43)]
         places = {number: ("f", "absent.c", number + 1) for number in range(43)}
