@@ -212,6 +212,12 @@ class Limits(InFolder):
         page = make_report(Asked(Tables(LAB), script))
         self.assertEqual((page.count('class="picture"'), "Left out: 2 sets more." in page), (60, True))
 
+    @needs_program
+    def test_the_curves_of_a_run_say_from_where_to_where(self) -> None:
+        script = self.write("script", "0 create\n0 add 0 CYCLES\n0 start 0\n0 run 2\n0 stop 0\n0 start 0\n0 run 1\n0 read 0\n")
+        page = make_report(Asked(Tables(LAB), script, (self.write("stream", "0 3c 00 u 1 1\n" * 3),)))
+        self.assertEqual(re.findall(r"<small>(from occurrence [^<]*)</small>", page), ["from occurrence 0 to 2", "from occurrence 2 to the end"])
+
     def test_a_picture_has_a_margin(self) -> None:
         picture = draw_alone(Picture([Counter("C0", "32", False)], [Row("mine::X", ("C0",), "C0")], title="T"))
         places = [float(x) for x in re.findall(r'<text[^>]* x="([0-9.]+)"', picture)]
