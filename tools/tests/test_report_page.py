@@ -13,7 +13,7 @@ from formats.scripts import calls_of
 from parts.profile import Bucket, FunctionHits, Profile
 from parts.report import making, profiles, timeline
 from parts.report.asking import Tables, Tools
-from parts.report.curves import draw_curves
+from parts.report.curves import BOTTOM, HEIGHT, LEFT, RIGHT, TOP, WIDTH, draw_curves
 from parts.report.exact import COUNTERS, exact_story, unlimited_unit
 from parts.report.making import Asked, make_report
 from parts.report.matrix import LETTER, Picture, Row, draw_alone
@@ -172,6 +172,13 @@ class Limits(InFolder):
         span = span_of("X", end=2000, readings=[Reading(0, (0,)), Reading(2000, (1500,))])
         self.assertEqual(text_of(draw_curves(span, Time())), "X 1,500 X of set 0 of thread 0 0 1.5k 0 at 0 1,500 at 2,000 0 2,000")
 
+    def test_a_curve_goes_from_place_to_place(self) -> None:
+        made = draw_curves(span_of("X", readings=[Reading(0, (0,)), Reading(4, (30,)), Reading(9, (60,))]), Time())[0]
+        start, end, top, ground = LEFT, WIDTH - RIGHT, TOP, HEIGHT - BOTTOM
+        middle = start + (end - start) * 4 / 9
+        line = f"M{start:.1f} {ground:.1f}L{middle:.1f} {(top + ground) / 2:.1f}L{end:.1f} {top:.1f}"
+        self.assertEqual(re.findall(r' d="([^"]*)"', made), [f"{line}V{ground:.1f}H{start:.1f}z", line])
+
     def test_a_curve_of_one_place_has_one_label(self) -> None:
         span = span_of("X", readings=[Reading(7, (0,)), Reading(7, (0,))])
         self.assertEqual(re.findall(r'text-anchor="(start|end)">([0-9]+)<', draw_curves(span, Time())[0])[-1:], [("start", "7")])
@@ -200,6 +207,10 @@ class Limits(InFolder):
         if made:
             self.assertEqual((made.count("absent.c:") // 2, "Left out: 3 lines more." in made), (40, True))
 
+    def test_of_lines_with_as_many_hits_the_first_is_the_hottest(self) -> None:
+        function = FunctionHits("f", 2, [Bucket(1, 1), Bucket(2, 1)])
+        self.assertEqual(profiles._hottest_line(function, {1: ("f", "a.c", 9), 2: ("f", "a.c", 5)}), (1, "a.c", 5))
+
     def test_lines_of_source_want_addr2line(self) -> None:
         profile = Profile([FunctionHits("f", 1, [Bucket(0, 1)])], 0, 1)
         with mock.patch("parts.report.profiles.has_addr2line", return_value=False):
@@ -208,9 +219,15 @@ class Limits(InFolder):
 
     @needs_program
     def test_sixty_pictures_of_a_kind(self) -> None:
-        script = self.write("script", "".join(f"0 create\n0 add {number} CYCLES\n" for number in range(62)))
-        page = make_report(Asked(Tables(LAB), script))
-        self.assertEqual((page.count('class="picture"'), "Left out: 2 sets more." in page), (60, True))
+        for sets, more in ((60, []), (62, ["Left out: 2 sets more."])):
+            script = self.write("script", "".join(f"0 create\n0 add {number} CYCLES\n" for number in range(sets)))
+            page = make_report(Asked(Tables(LAB), script))
+            self.assertEqual((page.count('class="picture"'), re.findall(r"Left out: [^<]*", page)), (60, more))
+
+    @needs_program
+    def test_the_files_of_a_page_stand_at_its_top(self) -> None:
+        asked = Asked(Tables(LAB), self.write("script", "0 create\n"), regions=self.write("regions", "0 begin whole\n0 end whole\n"), events="CYCLES")
+        self.assertIn(f"<span><b>regions</b> <code>{asked.regions}</code></span>", make_report(asked))
 
     @needs_program
     def test_the_curves_of_a_run_say_from_where_to_where(self) -> None:
