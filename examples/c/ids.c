@@ -78,6 +78,30 @@ static void threads(void) {
     for (int i = 0; i < number; i++) WANT(left[i] % 2, 0);
 }
 
+static void *waits(void *unused) {
+    WANT(PAPI_register_thread(), PAPI_OK);
+    pthread_barrier_wait(&barrier);
+    pthread_barrier_wait(&barrier);
+    WANT(PAPI_unregister_thread(), PAPI_OK);
+    return unused;
+}
+
+/* While there are two threads no function is taken. */
+static void after_a_second_thread(void) {
+    pthread_t other;
+    WANT(PAPI_library_init(PAPI_VER_CURRENT), PAPI_VER_CURRENT);
+    WANT(pthread_barrier_init(&barrier, NULL, 2), 0);
+    WANT(pthread_create(&other, NULL, waits, NULL), 0);
+    pthread_barrier_wait(&barrier);
+    WANT(PAPI_thread_init(own_id), PAPI_EINVAL);
+    WANT(PAPI_is_initialized(), PAPI_LOW_LEVEL_INITED);
+    pthread_barrier_wait(&barrier);
+    WANT(pthread_join(other, NULL), 0);
+    WANT(pthread_barrier_destroy(&barrier), 0);
+    WANT(PAPI_thread_init(own_id), PAPI_OK);
+    PAPI_shutdown();
+}
+
 /* A function that ends the library in which it is called. */
 static unsigned long last_id(void) {
     PAPI_shutdown();
@@ -122,6 +146,7 @@ int main(void) {
     WANT(PAPI_thread_init(own_id), PAPI_OK);
     WANT(PAPI_thread_id(), (unsigned long)PAPI_EMISC);
     PAPI_shutdown();
+    after_a_second_thread();
     ended_by_its_id();
     puts("each as wanted");
     return 0;
