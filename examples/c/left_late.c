@@ -90,7 +90,7 @@ int main(void) {
         int status;
         pid_t child = fork();
         if (child == 0) {
-            _exit(left_in(1 + i, i % 2));
+            exit(left_in(1 + i, i % 2));
         }
         WANT(waitpid(child, &status, 0), child);
         WANT(WIFEXITED(status) && (WEXITSTATUS(status) == 0 || (i % 2 && WEXITSTATUS(status) == LOST)), 1);

@@ -54,7 +54,7 @@ static int each_refused(void) {
     return refusals == k - 1 && refusals > 0;
 }
 
-/* A stream whose last line alone counts for an event, of which nothing is told. */
+/* A stream whose last line alone counts for an event, of which nothing is told, or does not count for it either. */
 static void with_stream(int others, const char *last, const char *name) {
     char path[] = "/tmp/kistalub_heads_XXXXXX";
     FILE *f = fdopen(mkstemp(path), "w");
@@ -81,6 +81,7 @@ int main(void) {
     life();
     setenv("KISTALUB_HINTS", "1", 1);
     with_stream(1, "0 00 00 u 1 1\n", "REF");
-    with_stream(4096, "0 c0 00 u 1 1\n", "INST_RETIRED"); /* as many heads as are not asked */
+    with_stream(4096, "0 c0 00 u 1 1\n", "INST_RETIRED"); /* one head more than are asked */
+    with_stream(4095, "0 00 00 u 1 1\n", "INST_RETIRED"); /* as many as are */
     return !all;
 }
