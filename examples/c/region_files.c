@@ -4,8 +4,10 @@
 #include "wanted.h"
 #include <dirent.h>
 #include <pthread.h>
+#include <signal.h>
 #include <stdint.h>
 #include <string.h>
+#include <sys/resource.h>
 #include <sys/stat.h>
 #include <sys/wait.h>
 #include <time.h>
@@ -240,6 +242,33 @@ static void ranks(void) {
     has_two("0", "papi_hl_output/rank_000000.json", "papi_hl_output/rank_000000-2.json", "papi_hl_output/rank_000001.json");
 }
 
+static struct rlimit room;
+
+static void give_room(void) { setrlimit(RLIMIT_FSIZE, &room); }
+
+/* The file has more than the 200 bytes that may be written. */
+static void has_little_room(void) {
+    struct rlimit little;
+    WANT(freopen(in("said"), "w", stderr) != NULL, 1);
+    signal(SIGXFSZ, SIG_IGN);
+    WANT(getrlimit(RLIMIT_FSIZE, &room), 0);
+    little = room;
+    little.rlim_cur = 200;
+    WANT(atexit(give_room), 0); /* after the file is written */
+    WANT(setrlimit(RLIMIT_FSIZE, &little), 0);
+    region("r");
+}
+
+static void full(void) {
+    char line[1024];
+    run(has_little_room);
+    snprintf(line, sizeof line, "kistalub: PAPI_OUTPUT_DIRECTORY: cannot write: %s\n", in("papi_hl_output/rank_000000.json"));
+    WANT(times("said", line), 1);
+    WANT(strcmp(text, line), 0);
+    take_away("papi_hl_output");
+    WANT(unlink(in("said")), 0);
+}
+
 static void *counts_by_name(void *name) {
     region(name);
     return NULL;
@@ -270,6 +299,7 @@ int main(void) {
     setenv("PAPI_OUTPUT_DIRECTORY", above, 1);
     setenv("PAPI_EVENTS", "INST_RETIRED", 1);
     ranks();
+    full();
     order();
     stops();
     events();
