@@ -25,7 +25,8 @@ static int group_of(counted_events *counted, int component) {
     for (int i = 0; i < counted->group_count; i++)
         if (counted->groups[i].component == component) return i;
     const PAPI_component_info_t *info = PAPI_get_component_info(component);
-    if (!info || counted->group_count == MOST_GROUPS) return PAPI_ECOUNT;
+    if (!info) return PAPI_ENOMEM;
+    if (counted->group_count == MOST_GROUPS) return PAPI_ECOUNT;
     event_group *group = &counted->groups[counted->group_count];
     int code = kl_make_region_set(component, &group->trial);
     if (code != PAPI_OK) return code;
@@ -46,8 +47,8 @@ static void insert(counted_events *counted, const region_event *event) {
     counted->groups[event->group].count++;
 }
 
-/* Takes an event where it is available and can be counted with the others of its group. */
-static void take_event(counted_events *counted, const char *name, int is_instant) {
+/* Takes an event where it is available and can be counted with the others of its group. That memory is refused is the only error. */
+static int take_event(counted_events *counted, const char *name, int is_instant) {
     region_event event = { .is_instant = is_instant };
     int fits = strlen(name) < sizeof event.name && counted->event_count < MOST_REGION_EVENTS, number, code = PAPI_EINVAL;
     if (fits) {
@@ -55,14 +56,17 @@ static void take_event(counted_events *counted, const char *name, int is_instant
         code = PAPI_event_name_to_code(name, &number);
     }
     if (code == PAPI_OK) code = PAPI_query_event(number);
-    if (code == PAPI_OK) code = event.group = group_of(counted, PAPI_get_event_component(number));
+    if (code == PAPI_OK) code = PAPI_get_event_component(number);
+    if (code >= 0) code = event.group = group_of(counted, code);
     if (code >= 0) code = PAPI_add_event(counted->groups[event.group].trial, number);
+    if (code == PAPI_ENOMEM) return code;
     if (code == PAPI_OK) insert(counted, &event);
     else kl_region_say("Warning: cannot count ", name);
+    return PAPI_OK;
 }
 
 /* Takes an event of PAPI_EVENTS: a name, which =instant or =delta may follow, with spaces that mean nothing. */
-static void take_word(counted_events *counted, const char *word, size_t length) {
+static int take_word(counted_events *counted, const char *word, size_t length) {
     char name[2 * PAPI_MAX_STR_LEN];
     size_t n = 0;
     for (size_t i = 0; i < length && n < sizeof name - 1; i++)
@@ -71,7 +75,7 @@ static void take_word(counted_events *counted, const char *word, size_t length) 
     char *kind = n ? strrchr(name, '=') : NULL;
     int is_instant = kind && !strcmp(kind, "=instant");
     if (kind && (is_instant || !strcmp(kind, "=delta"))) *kind = 0;
-    if (name[0]) take_event(counted, name, is_instant);
+    return name[0] ? take_event(counted, name, is_instant) : PAPI_OK;
 }
 
 static void end_trials(counted_events *counted) {
@@ -96,18 +100,19 @@ static void drop_empty_groups(counted_events *counted) {
 int kl_choose_region_events(counted_events *counted) {
     const char *names = kl_variable("PAPI_EVENTS");
     const PAPI_hw_info_t *hardware = PAPI_get_hardware_info();
+    int code = hardware ? PAPI_OK : PAPI_ENOMEM;
     memset(counted, 0, sizeof *counted);
     if (hardware) {
         snprintf(counted->cpu, sizeof counted->cpu, "%s", hardware->model_string);
         counted->mhz = hardware->cpu_max_mhz;
     }
-    while (names && *names) {
+    while (code == PAPI_OK && names && *names) {
         size_t length = strcspn(names, ",");
-        take_word(counted, names, length);
+        code = take_word(counted, names, length);
         names += length + (names[length] == ',');
     }
-    if (counted->event_count == 0) take_event(counted, USUAL_EVENT, 0);
+    if (code == PAPI_OK && counted->event_count == 0) code = take_event(counted, USUAL_EVENT, 0);
     end_trials(counted);
     drop_empty_groups(counted);
-    return counted->event_count ? PAPI_OK : PAPI_EINVAL;
+    return code == PAPI_OK && counted->event_count == 0 ? PAPI_EINVAL : code;
 }

@@ -6,6 +6,10 @@
 #include <pthread.h>
 #include <stdlib.h>
 #include <string.h>
+#include <sys/wait.h>
+#include <unistd.h>
+
+#define IS_REFUSED 2
 
 /* Makes a call, and once more if an allocation was refused in it. */
 #define MADE(call, wanted) do { \
@@ -183,9 +187,39 @@ static void reads_a_region(void) {
     PAPI_shutdown();
 }
 
+/* The first region of a process, in which an allocation is refused. It fails then, and with it each further call for a region. */
+static int begins_a_region(long allocation) {
+    long before = refusals;
+    WANT(freopen("/dev/null", "w", stderr) != NULL, 1);
+    left = allocation;
+    int code = PAPI_hl_region_begin("region"), is_refused = refusals != before;
+    left = -1;
+    WANT(code, is_refused ? PAPI_ENOMEM : PAPI_OK);
+    WANT(PAPI_hl_region_end("region"), is_refused ? PAPI_EMISC : PAPI_OK);
+    PAPI_shutdown();
+    return is_refused;
+}
+
+/* Each allocation of it refused in turn, until one has none that is. Each is a process of its own. */
+static int each_refused_to_a_region(void) {
+    int status, is_refused = 1;
+    long k = 0;
+    setenv("PAPI_EVENTS", "INST_RETIRED,PACKETS", 1); /* of two components */
+    setenv("PAPI_OUTPUT_DIRECTORY", "/dev/null/none", 1);
+    fflush(stdout);
+    for (; is_refused; k++) {
+        pid_t child = fork();
+        if (child == 0) exit(begins_a_region(k) ? IS_REFUSED : 0);
+        WANT(waitpid(child, &status, 0), child);
+        WANT(WIFEXITED(status) && (WEXITSTATUS(status) == 0 || WEXITSTATUS(status) == IS_REFUSED), 1);
+        is_refused = WEXITSTATUS(status) == IS_REFUSED;
+    }
+    return k > 1;
+}
+
 int main(void) {
     no_library();
-    int all = each_refused(life) && each_refused(steps);
+    int all = each_refused_to_a_region() && each_refused(life) && each_refused(steps);
     reads_a_region();
     printf("each allocation refused once, and nothing is left: %s\n", all ? "yes" : "no");
     return !all;
