@@ -2,6 +2,7 @@
 #include "papi.h"
 #include "wanted.h"
 #include <string.h>
+#include <unistd.h>
 
 static int initialized = 1, zeroed;
 
@@ -97,6 +98,33 @@ static void caches(void) {
     unsetenv("KISTALUB_CACHES");
 }
 
+/* The pmu's name in libpfm4 says whose processor it is. */
+static void vendors(void) {
+    static const struct { const char *pmu; int vendor; const char *name; } wanted[] = {
+        { "ix86arch", PAPI_VENDOR_INTEL, "GenuineIntel" },       { "skl_core", PAPI_VENDOR_INTEL, "GenuineIntel" },
+        { "itanium2", PAPI_VENDOR_INTEL, "GenuineIntel" },       { "AMD64_fam19h", PAPI_VENDOR_AMD, "AuthenticAMD" },
+        { "arm_a64fx", PAPI_VENDOR_ARM_FUJITSU, "Fujitsu" },     { "arm_n1", PAPI_VENDOR_ARM_ARM, "ARM" },
+        { "power9", PAPI_VENDOR_IBM, "IBM" },                    { "mips_74k", PAPI_VENDOR_MIPS, "MIPS" },
+        { "sklcore", PAPI_VENDOR_UNKNOWN, "unknown" },           { "am", PAPI_VENDOR_UNKNOWN, "unknown" },
+    };
+    char before[4096], unit[] = "/tmp/kistalub_unit_XXXXXX";
+    snprintf(before, sizeof before, "%s", getenv("KISTALUB_UNIT"));
+    WANT(close(mkstemp(unit)), 0);
+    setenv("KISTALUB_UNIT", unit, 1);
+    for (size_t i = 0; i < sizeof wanted / sizeof *wanted; i++) {
+        FILE *f = fopen(unit, "w");
+        WANT(f != NULL, 1);
+        fprintf(f, "COMPONENT,cpu,%s\nCOUNTER,C0,48,P\nEVENT,CYCLES,3c,C0,Cycles\n", wanted[i].pmu);
+        WANT(fclose(f), 0);
+        WANT(PAPI_library_init(PAPI_VER_CURRENT), PAPI_VER_CURRENT);
+        WANT(PAPI_get_hardware_info()->vendor, wanted[i].vendor);
+        WANT(strcmp(PAPI_get_hardware_info()->vendor_string, wanted[i].name), 0);
+        PAPI_shutdown();
+    }
+    WANT(unlink(unit), 0);
+    setenv("KISTALUB_UNIT", before, 1);
+}
+
 /* A cycle for each occurrence, at 1000 MHz. */
 static void times(void) {
     uint32_t went = 0;
@@ -130,6 +158,7 @@ int main(void) {
     times();
     PAPI_shutdown();
     caches();
+    vendors();
     /* A component that is disabled before the library begins is still told of, but has no events. */
     WANT(PAPI_disable_component(0), PAPI_OK);
     WANT(PAPI_disable_component(99), PAPI_ENOCMP);
