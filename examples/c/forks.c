@@ -30,9 +30,11 @@ static void *work(void *unused) {
 
 /* Ends with 0 if all is as wanted, and by a signal if it takes long. */
 static void child(void) {
-    int set = PAPI_NULL;
+    int set = PAPI_NULL, number = 0;
     long long count;
     alarm(PATIENCE);
+    WANT(PAPI_list_threads(NULL, &number), PAPI_OK);
+    WANT(number, 1);
     WANT(PAPI_library_init(PAPI_VER_CURRENT), PAPI_VER_CURRENT);
     WANT(PAPI_create_eventset(&set), PAPI_OK);
     WANT(set, 0);

@@ -53,6 +53,9 @@ static void list_all(void) {
     WANT(all.num, THREADS + 1);
     for (int i = 0; i < all.num; i++) with += kept[i] != NULL;
     WANT(with, THREADS);
+    all.num = 1;
+    WANT(PAPI_get_thr_specific(PAPI_USR1_TLS | PAPI_TLS_ALL_THREADS, (void **)&all), PAPI_OK);
+    WANT(all.num, 1);
 }
 
 static void threads(void) {

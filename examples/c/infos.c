@@ -27,6 +27,7 @@ static void *read_infos(void *unused) {
 int main(void) {
     pthread_t threads[THREADS];
     WANT(PAPI_disable_component_by_name("net"), PAPI_OK);
+    WANT(PAPI_disable_component(15), PAPI_OK); /* which is not there */
     WANT(PAPI_library_init(PAPI_VER_CURRENT), PAPI_VER_CURRENT);
     for (int i = 0; i < THREADS; i++) WANT(pthread_create(&threads[i], NULL, read_infos, NULL), 0);
     for (int i = 0; i < THREADS; i++) WANT(pthread_join(threads[i], NULL), 0);

@@ -114,9 +114,10 @@ static void vendors(void) {
     for (size_t i = 0; i < sizeof wanted / sizeof *wanted; i++) {
         FILE *f = fopen(unit, "w");
         WANT(f != NULL, 1);
-        fprintf(f, "COMPONENT,cpu,%s\nCOUNTER,C0,48,P\nEVENT,CYCLES,3c,C0,Cycles\n", wanted[i].pmu);
+        fprintf(f, "COMPONENT,cpu,%s\nCOUNTER,C0,48,P\nEVENT,CYCLES,3c,C0,Cycles\nCOMPONENT,none,nothing\n", wanted[i].pmu);
         WANT(fclose(f), 0);
         WANT(PAPI_library_init(PAPI_VER_CURRENT), PAPI_VER_CURRENT);
+        WANT(PAPI_num_components(), 2); /* one of them without a counter */
         WANT(PAPI_get_hardware_info()->vendor, wanted[i].vendor);
         WANT(strcmp(PAPI_get_hardware_info()->vendor_string, wanted[i].name), 0);
         PAPI_shutdown();
