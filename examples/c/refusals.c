@@ -27,6 +27,7 @@ int main(void) {
     WANT(PAPI_start(-1), PAPI_ENOEVST);
     WANT(PAPI_read(7, counts), PAPI_ENOEVST);
     WANT(PAPI_read(set, NULL), PAPI_EINVAL);
+    WANT(PAPI_accum(set, NULL), PAPI_EINVAL);
     WANT(PAPI_destroy_eventset(&none), PAPI_ENOEVST);
     WANT(PAPI_cleanup_eventset(7), PAPI_ENOEVST);
     WANT(PAPI_num_events(7), PAPI_ENOEVST);

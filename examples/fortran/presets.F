@@ -1,11 +1,22 @@
 C The presets that are available with the number of their native events, in fixed form and through the C preprocessor. Then the code
-C of a preset to its name and back.
+C of a preset to its name and back. Without a library nothing is told of the processor and of the program.
       PROGRAM PRESETS
       IMPLICIT NONE
 #include "fpapi.h"
       INTEGER EVENT, CHECK, COUNT, FLAGS
       CHARACTER*16 NAME
       CHARACTER*64 LONGER, SHORTER, NOTE
+      INTEGER CPUS, NODES, ALL_CPUS, VENDOR, MODEL
+      INTEGER*8 PLACES(6)
+      REAL REVISION, MHZ
+      CALL PAPIF_GET_HARDWARE_INFO(CPUS, NODES, ALL_CPUS, VENDOR,
+     &  LONGER, MODEL, SHORTER, REVISION, MHZ)
+      IF (CPUS .NE. 0 .OR. NODES .NE. 0 .OR. ALL_CPUS .NE. 0) STOP 6
+      IF (VENDOR .NE. 0 .OR. MODEL .NE. 0 .OR. MHZ .NE. 0) STOP 7
+      IF (LONGER .NE. ' ' .OR. SHORTER .NE. ' ') STOP 8
+      CALL PAPIF_GET_EXE_INFO(LONGER, SHORTER, PLACES(1), PLACES(2),
+     &  PLACES(3), PLACES(4), PLACES(5), PLACES(6), CHECK)
+      IF (CHECK .NE. PAPI_EINVAL) STOP 9
       CHECK = PAPI_VER_CURRENT
       CALL PAPIF_LIBRARY_INIT(CHECK)
       IF (CHECK .NE. PAPI_VER_CURRENT) STOP 1
