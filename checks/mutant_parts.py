@@ -51,7 +51,7 @@ PARTS = {
     "completions": Part(("completions/candidates", "completions/kistalub.bash"), "test_completions", is_pure=False),
     "install": Part(("bin/install",), "test_install"),
     "make_deb": Part(("tools/make_deb",), "test_make_deb", is_pure=False),
-    "conflict": Part(("tools/conflict", *(f"tools/parts/report/{name}.py" for name in ("alone", "matrix"))), "test_conflict", is_pure=False),
+    "conflict": Part(("tools/conflict", *(f"tools/parts/report/{name}.py" for name in ("alone", "matrix"))), "test_conflict test_report_page.Limits", is_pure=False),
     "hints": Part(_all("bin/hints/**/*.py"), "test_hints test_hints_running test_report.Rules test_causes", is_pure=False),
     "scripts": Part(("bin/papi", "bin/unproved.sh", *_all("bin/hints/*.sh")), _SCRIPTS, is_pure=False),
     "report": Part(("tools/report", *_all("tools/parts/report/*.py", but=("alone.py", "matrix.py"))), "test_report test_report_examples test_report_page test_report_files test_conflict", is_pure=False),

@@ -46,7 +46,7 @@ static void child(void) {
     WANT(PAPI_stop(set, &count), PAPI_OK);
     WANT(count, 2040);
     PAPI_shutdown();
-    _exit(0);
+    exit(0);
 }
 
 int main(void) {
