@@ -99,6 +99,9 @@ class Programs(Counted):
         self.assertTrue(2000 < all_of < 2020 and precise == all_of and 999 <= taken < 1005 and cycles >= all_of and hits < 10 and 0 < starts < 10, done.stdout)
         lines = Counter(line[:9] for line in kept.read_text(encoding="ascii").splitlines())
         self.assertTrue(lines["0 c0 01 u"] and lines["0 00 03 u"] and not lines["0 c0 00 u"], lines)
+        self.count("--keep", str(kept), self.compile(self.NAMED), "PAPI_TOT_INS")
+        lines = Counter(line[:9] for line in kept.read_text(encoding="ascii").splitlines())
+        self.assertTrue(lines["0 c0 00 u"] and not lines["0 c0 01 u"] and not lines["0 00 03 u"], lines)
 
     def test_what_counts_nothing_is_told_once(self) -> None:
         program = self.compile(self.NAMED)
