@@ -56,6 +56,7 @@ def draw_crates(listed: dict[str, list[str]]) -> str:
     lines = [
         f'<svg xmlns="http://www.w3.org/2000/svg" width="{width}" height="{height}" viewBox="0 0 {width} {height}" role="img">',
         "<title>The crates of Kistalub</title>",
+        "<!-- tools/draw_crates makes this file of crates.txt. -->",
         f"<style>{_style()}</style>",
         f'<rect class="page" width="{width}" height="{height}" rx="6"/>',
         f'<text class="title" x="{MARGIN}" y="{MARGIN + 12}">The crates, each above all that it stands on</text>',
