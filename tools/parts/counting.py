@@ -77,7 +77,7 @@ def _changes(counting: Counting) -> dict[str, str]:
     changes = {**named_files(counting.unit, counting.presets, counting.cpu), "KISTALUB_CACHES": counting.machine.caches(), "LD_BIND_NOW": "1"}
     library = counting.library or (INSTALLED_LIBRARY if INSTALLED_LIBRARY.is_dir() else None)
     if library:
-        paths = [str(Path(library).resolve()), *filter(None, [os.environ.get("LD_LIBRARY_PATH")])]
+        paths = [valgrind.of_one_length(str(Path(library).resolve())), *filter(None, [os.environ.get("LD_LIBRARY_PATH")])]
         changes["LD_LIBRARY_PATH"] = ":".join(paths)
     if counting.keep:
         changes["KISTALUB_KEEP"] = f"{os.getpid()} {os.path.abspath(counting.keep)}"
