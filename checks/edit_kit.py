@@ -1,4 +1,6 @@
-"""The toolchain's own `rt`, as `edits` uses it: its crates, their libraries, and how it classes an edit. It is read as a module, so that it judges itself."""
+"""The toolchain's own `rt`, as `edits` uses it: its crates, libraries and classes of edits.
+
+It is read as a module, so that what it says of an edit is its own judgement."""
 
 from __future__ import annotations
 
@@ -18,9 +20,9 @@ import here as here  # finds `parts`
 
 from parts.command import Fault
 
-USED = ("must_fail", "read_edit", "unread", "Kept", "need", "free", "processors", "handles_of", "STORE", "REFUSED", "BAD", "UNSURE", "MISSED")
-LIBRARY_FILES = ("src", "specs", "proofs")
-UNUSABLE = 2
+USED = """must_fail read_edit unread checked Kept need free processors handles_of STORE
+REFUSED BAD UNSURE""".split()
+UNUSABLE = 2  # the status of a run that can try nothing
 
 
 @lru_cache(maxsize=None)
@@ -38,10 +40,15 @@ def rt() -> Any:
         loader.exec_module(made)
     except (OSError, SyntaxError) as error:
         raise Fault(f"{path} is not the rt that this check knows: {error}", UNUSABLE) from None
-    lacking = [name for name in USED if not hasattr(made, name)]
-    if lacking:
-        raise Fault(f"{path} is not the rt that this check knows: it has no {lacking[0]}", UNUSABLE)
+    for name in USED:
+        if not hasattr(made, name):
+            raise Fault(f"{path} is not the rt that this check knows: it lacks {name}", UNUSABLE)
     return made
+
+
+def rattle() -> str:
+    """The prover."""
+    return str(rt().rtlib.RATTLE)
 
 
 def crates_in(root: Path) -> list[Any]:
@@ -49,40 +56,51 @@ def crates_in(root: Path) -> list[Any]:
     if not (root / "crates.txt").is_file():
         raise Fault(f"{root} has no crates.txt", UNUSABLE)
     rt().Crate.allowed = rt().handles_of(str(root))
-    crates = rt().rtlib.crates_below(str(root))
-    return sorted(crates, key=lambda crate: len(crate.below()))
+    return sorted(rt().rtlib.crates_below(str(root)), key=lambda crate: len(crate.below()))
+
+
+def files_of(crate: Any) -> dict[str, Path]:
+    """The files that a check of the crate reads, by their paths in it."""
+    folder = Path(crate.folder)
+    found = (path for part in rt().rtlib.PARTS for path in (folder / part).rglob("*"))
+    return {str(path.relative_to(folder)): path for path in found if path.is_file()}
 
 
 class Libraries:
-    """The libraries that `rt ci` or a check left built, each held to the text that stands there now."""
+    """The libraries that `rt ci` or a check left built. Each is held to the text that is there."""
 
     def __init__(self, crates: list[Any]):
         self.kept = rt().Kept(crates)
         self._known: dict[str, bool] = {}
 
     def key(self, crate: Any) -> str:
-        """A checksum of all that a verdict on the crate rests on, once the libraries below it are settled."""
+        """A checksum of all that a verdict on the crate rests on, if no library is lacking."""
         return str(self.kept.key(crate))
 
     def lacking(self, crate: Any) -> Optional[str]:
-        """The first library below the crate that is not built of the text that stands there."""
-        return next((below.name for below in crate.below() if not self._is_settled(below)), None)
+        """The first library below the crate that is not built of the text that is there."""
+        return next((each.name for each in crate.below() if not self._is_settled(each)), None)
 
     def _is_settled(self, crate: Any) -> bool:
         if crate.name not in self._known:
-            well = self.lacking(crate) is None and (crate.is_built() or self._is_of_gate(crate) or self._is_newer(crate))
+            well = self.lacking(crate) is None and self._is_built(crate)
             if well:
                 self.kept.is_built(crate)
             self._known[crate.name] = well
         return self._known[crate.name]
 
+    def _is_built(self, crate: Any) -> bool:
+        """Whether a library is there, built by a check, by `rt ci`, or when nothing was kept."""
+        if crate.is_built():
+            return True
+        return self._is_of_gate(crate) if self.kept.at else self._is_newer(crate)
+
     def _is_of_gate(self, crate: Any) -> bool:
-        """Whether `rt ci` made this library of the same text. If it kept one and another stands here, it takes the place of that."""
-        if not self.kept.at:
-            return False
+        """Whether `rt ci` made this library. One that it kept takes the place of another."""
         key = self.kept.key(crate)
         try:
-            made = json.loads(Path(self.kept.place(crate, False, key), "made.json").read_text(encoding="utf-8"))
+            list_of_files = Path(self.kept.place(crate, False, key), "made.json")
+            made = json.loads(list_of_files.read_text(encoding="utf-8"))
             if made["key"] == key and self._has(crate, made["files"]):
                 return True
         except (OSError, ValueError, KeyError, TypeError):
@@ -91,18 +109,22 @@ class Libraries:
         return bool(self.kept.give(crate, False, key))
 
     def _has(self, crate: Any, files: list[list[str]]) -> bool:
+        out, sum_of = f"{crate.folder}/out", rt().rtlib.sum_of
         if sorted(path for path, _ in files) != self.kept.made(crate, False):
             return False
-        return all(rt().rtlib.sum_of(f"{crate.folder}/out/{path}") == wanted for path, wanted in files)
+        return all(sum_of(f"{out}/{path}") == wanted for path, wanted in files)
 
     def _is_newer(self, crate: Any) -> bool:
-        """Whether a library is there that was made after the last change of its files and of the libraries below it, where nothing is kept to compare it with."""
+        """Whether a library was made after the last change of its text and of those below it."""
         made = [Path(each.rlib, "format") for each in (crate, *crate.below())]
-        if self.kept.at or not all(path.is_file() for path in made):
+        if not all(path.is_file() for path in made):
             return False
-        texts = [path for part in LIBRARY_FILES for path in Path(crate.folder, part).rglob("*")]
         own, *below = (path.stat().st_mtime for path in made)
-        return all(path.stat().st_mtime <= own for path in texts) and all(time <= own for time in below)
+        return all(time <= own for time in (*_times(crate), *below))
+
+
+def _times(crate: Any) -> list[float]:
+    return [path.stat().st_mtime for path in files_of(crate).values()]
 
 
 def class_of(crate: Any, edit: Path, ended: subprocess.CompletedProcess[str]) -> tuple[str, str]:

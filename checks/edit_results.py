@@ -1,4 +1,6 @@
-"""What earlier runs of `edits` found, by the checksum of all that a result rests on. So an entry never goes stale: it is only not looked for any more."""
+"""What earlier runs of `edits` found, by the checksum of all that a result rests on.
+
+So an entry never goes stale: it is only not looked for any more."""
 
 from __future__ import annotations
 
@@ -16,7 +18,8 @@ from edit_kit import rt
 
 MOST_KEPT = 20_000  # entries of some 300 bytes
 LEAVES = 100 << 20  # bytes of the disk
-OWN = ("edits", *(f"edit_{part}.py" for part in ("kit", "source", "rounds", "running", "results")))
+PARTS = ("kit", "source", "rounds", "running", "results")
+OWN = ("edits", *(f"edit_{part}.py" for part in PARTS))
 FOLDER = "edits-in-rounds"
 
 
@@ -25,14 +28,19 @@ def _own_sum() -> str:
     return hashlib.sha256(b"\0".join((CHECKS / name).read_bytes() for name in OWN)).hexdigest()
 
 
-def _place() -> Optional[Path]:
+def _places() -> list[Path]:
     """Beside what rt keeps, or else in the user's folder for caches."""
-    cache = os.environ.get("XDG_CACHE_HOME") or (os.environ["HOME"] + "/.cache" if "HOME" in os.environ else "")
-    for top in (rt().STORE, f"{cache}/kistalub" if cache else ""):
+    home = os.environ.get("HOME")
+    cache = os.environ.get("XDG_CACHE_HOME") or (f"{home}/.cache" if home else "")
+    return [Path(rt().STORE, FOLDER), *([Path(cache, "kistalub", FOLDER)] if cache else [])]
+
+
+def _place() -> Optional[Path]:
+    """The first place that is this user's own and that can be written."""
+    for place in _places():
         with suppress(OSError):
-            place = Path(top, FOLDER)
             place.mkdir(mode=0o700, parents=True, exist_ok=True)
-            if top and place.stat().st_uid == os.geteuid() and os.access(place, os.W_OK):
+            if place.stat().st_uid == os.geteuid() and os.access(place, os.W_OK):
                 return place
     return None
 
@@ -45,7 +53,8 @@ class Results:
 
     def name(self, key: str, edit: Path) -> str:
         """The name of an edit's result over a crate with this checksum."""
-        return hashlib.sha256(repr((self.own, key, edit.name, edit.read_bytes())).encode()).hexdigest()
+        what = (self.own, key, edit.name, edit.read_bytes())
+        return hashlib.sha256(repr(what).encode()).hexdigest()
 
     def get(self, name: str) -> Optional[tuple[str, str]]:
         if self.place is None or self.anew:
@@ -60,15 +69,16 @@ class Results:
             return None
 
     def keep(self, name: str, kind: str, text: str) -> None:
-        """Keeps a result that stays so. It is written apart and then renamed, so that no other run meets half of it."""
+        """Keeps a result that stays so. It is renamed once it is whole, so nobody reads half."""
         if self.place is None or kind not in (rt().REFUSED, rt().BAD):
             return
+        entry = {"edit": name, "kind": kind, "text": text}
         with suppress(OSError):
             disk = os.statvfs(self.place)
             if disk.f_bavail * disk.f_frsize < LEAVES:
                 return
-            with tempfile.NamedTemporaryFile("w", prefix="new-", dir=self.place, delete=False, encoding="utf-8") as file:
-                json.dump({"edit": name, "kind": kind, "text": text}, file)
+            with tempfile.NamedTemporaryFile("w", dir=self.place, delete=False) as file:
+                json.dump(entry, file)
             os.replace(file.name, self.place / name)
 
     def shrink(self) -> None:

@@ -1,4 +1,4 @@
-"""The edits of a crate, which of them one check tries together, and what its output says of each of them."""
+"""The edits of a crate, which of them one check tries together, and what it says of each."""
 
 from __future__ import annotations
 
@@ -16,13 +16,16 @@ NAME = re.compile(r"[A-Za-z0-9_-][A-Za-z0-9_.-]*\.edit")
 PLACE = re.compile(r"(?:note: )?(?:\./)?((?:src|specs|proofs)/\S+?):(\d+):\d+: ")
 ASKED = re.compile(r"only=\d+ proved=\d+")
 NOT_PROVED = "logic=not-proved"
+REFUSALS = ("not proved", "no proof")
 CALLS = re.compile(r"it calls .*, which (is|are) not proved")
-DEPENDS = re.compile(r"was rejected|was not checked|were not checked|was not admitted")
+DEPENDS = re.compile(r"was rejected|(was|were) not checked|was not admitted")
 
 
 @dataclass(frozen=True)
 class Edit:
-    """An edit: the texts that it changes, in turn, each with its line, and the functions that these stand in. No functions: it changes something else too."""
+    """An edit: the texts that it changes in turn, their lines, and the functions of all of these.
+
+    No functions: it changes something else too."""
 
     path: Path
     pairs: tuple[tuple[str, str, str], ...]
@@ -45,23 +48,28 @@ class Edit:
 
 @dataclass
 class Round:
-    """Edits that one check tries together: each on functions of its own, and as a whole crate if there is one that is on none."""
+    """Edits that one check tries together, each on a function of its own, or one edit alone."""
 
     crate: Any
     edits: list[Edit]
     texts: dict[str, str]
-    number: int = 1
     is_whole: bool = False
     used: set[str] = field(default_factory=set)
 
+    def functions(self) -> list[str]:
+        """The functions that the check is asked for."""
+        names = {function.name for edit in self.edits for function in edit.functions}
+        return [] if self.is_whole else sorted(names)
+
     def flags(self) -> list[str]:
-        names = () if self.is_whole else sorted({function.name for edit in self.edits for function in edit.functions})
-        return [word for name in names for word in ("--only", name)]
+        return [word for name in self.functions() for word in ("--only", name)]
 
     def takes(self, edit: Edit) -> bool:
         """Adds an edit if it can be tried beside the others."""
         asked = {function.together for function in edit.functions}
-        made = None if asked & self.used or len(self.edits) >= MOST_TOGETHER else edit.apply(self.texts)
+        if asked & self.used or len(self.edits) >= MOST_TOGETHER:
+            return False
+        made = edit.apply(self.texts)
         if made is None:
             return False
         self.edits.append(edit)
@@ -72,7 +80,7 @@ class Round:
 
 def edit_files(folder: Path) -> tuple[list[Path], list[Path]]:
     """The edits that stand right in a folder, and what stands there and is none."""
-    files = [path for path in sorted(folder.iterdir()) if path.is_file()] if folder.is_dir() else []
+    files = [path for path in sorted(folder.glob("*")) if path.is_file()]
     good = [path for path in files if NAME.fullmatch(path.name)]
     return good, [path for path in files if path not in good and path.suffix != ".md"]
 
@@ -108,42 +116,48 @@ def _owner(functions: list[Function], file: str, line: int) -> Optional[Function
     return min(having, key=lambda each: each.last - each.first, default=None)
 
 
-def plan(crate: Any, edits: Iterable[Edit], texts: dict[str, str], first: int = 1) -> list[Round]:
-    """As few rounds as there can be with one edit a function in each. An edit of something else, or of more, has one of its own."""
+def plan(crate: Any, edits: Iterable[Edit], texts: dict[str, str]) -> list[Round]:
+    """As few rounds as there can be with one edit a function in each.
+
+    An edit of something else than one function, or of a constant one, has a round of its own."""
+    lone: list[Round] = []
     rounds: list[Round] = []
     for edit in edits:
         if edit.goes_alone:
-            rounds.append(alone(crate, edit, texts))
-        elif not any(each.takes(edit) for each in rounds if not each.is_whole and not each.edits[0].goes_alone):
+            lone.append(alone(crate, edit, texts))
+        elif not any(each.takes(edit) for each in rounds):
             rounds.append(Round(crate, [], texts))
             rounds[-1].takes(edit)
-    for number, each in enumerate(rounds, first):
-        each.number = number
-    return rounds
+    return rounds + lone
 
 
 def alone(crate: Any, edit: Edit, texts: dict[str, str], is_whole: bool = False) -> Round:
     """A round of this edit: over the functions that it changes, or as rt tries it."""
     made = edit.apply(texts)
     assert made is not None
-    return Round(crate, [edit], made, is_whole=is_whole or not edit.functions)
+    return Round(crate, [edit], made, is_whole or not edit.functions)
 
 
-def alone_as_rt_sees_it(ended: subprocess.CompletedProcess[str]) -> subprocess.CompletedProcess[str]:
-    """The output of a check of one edit's functions in the words of one of the whole crate, as far as that says the same: if these are refused, it is."""
-    lines = ended.stdout.rstrip("\n").split("\n")
-    if ended.returncode == 1 and ASKED.match(lines[-1]):
+def as_whole(check: subprocess.CompletedProcess[str]) -> subprocess.CompletedProcess[str]:
+    """A check of functions in the words of one of the whole crate, which is refused if they are."""
+    lines = check.stdout.rstrip("\n").split("\n")
+    if check.returncode == 1 and ASKED.match(lines[-1]):
         lines[-1] = NOT_PROVED
-    return subprocess.CompletedProcess([], ended.returncode, "\n".join(lines))
+    return subprocess.CompletedProcess([], check.returncode, "\n".join(lines))
 
 
-def judge(turn: Round, ended: subprocess.CompletedProcess[str]) -> tuple[dict[Edit, subprocess.CompletedProcess[str]], list[Edit]]:
-    """Of each edit that the check refuses for its own sake, what rt would have seen of it alone. And those that made the check end before it could judge any."""
-    lines = ended.stdout.rstrip("\n").split("\n")
+def judge(
+    turn: Round, check: subprocess.CompletedProcess[str]
+) -> tuple[dict[Edit, subprocess.CompletedProcess[str]], list[Edit]]:
+    """Of each edit that is refused for its own sake, what a check of it alone would have said.
+
+    And the edits that made the check end before it could judge any."""
+    lines = check.stdout.rstrip("\n").split("\n")
     changed = {file for edit in turn.edits for file, _ in edit.lines}
     unread = [line for line in lines if rt().unread(line, changed)]
-    if ended.returncode != 1 or not ASKED.match(lines[-1]) or unread:
-        return {}, _at(turn.edits, unread or [line for line in lines if re.search(r"\berror\b", line)])
+    if check.returncode != 1 or not ASKED.match(lines[-1]) or unread:
+        wrong = unread or [line for line in lines if re.search(r"\berror\b", line)]
+        return {}, _at(turn.edits, wrong)
     seen = {edit: _seen_alone(turn, edit, lines) for edit in turn.edits}
     return {edit: found for edit, found in seen.items() if found}, []
 
@@ -154,17 +168,28 @@ def _at(edits: list[Edit], lines: list[str]) -> list[Edit]:
     return [edit for edit in edits if places & set(edit.lines)] or edits
 
 
-def _seen_alone(turn: Round, edit: Edit, lines: list[str]) -> Optional[subprocess.CompletedProcess[str]]:
+def _seen_alone(
+    turn: Round, edit: Edit, lines: list[str]
+) -> Optional[subprocess.CompletedProcess[str]]:
     """What the check says of the edit's function, if it refuses that for the edit's sake."""
     function = edit.functions[0]
-    said = next((line for line in lines if line.startswith(f"fn {function.name}: ")), "").partition(": ")[2]
-    causes = [part for part in said.split("; ") if not CALLS.search(part)]
+    refused = [said for said in _said_of(function, lines) if said.startswith(REFUSALS)]
+    causes = [part for said in refused for part in said.split("; ") if not CALLS.search(part)]
     own = [line for line in lines if _is_of(function, turn.crate.name, line)]
     errors = [line for line in own if ": error" in line and not DEPENDS.search(line)]
     is_open = any("did not prove" in part for part in causes)
-    if not said.startswith(("not proved", "no proof")) or not (errors or is_open):
+    if not refused or not (errors or is_open):
         return None
     return subprocess.CompletedProcess([], 1, "\n".join([*own, NOT_PROVED]))
+
+
+def _said_of(function: Function, lines: list[str]) -> Iterator[str]:
+    """What a check says of a function and of its closures, whose names have one more `fn`."""
+    for line in lines:
+        head, _, said = line.partition(": ")
+        name = head[len("fn ") :].replace("::fn::", "::")
+        if head.startswith("fn ") and f"{name}::".startswith(f"{function.name}::"):
+            yield said
 
 
 def _is_of(function: Function, crate: str, line: str) -> bool:
@@ -173,5 +198,5 @@ def _is_of(function: Function, crate: str, line: str) -> bool:
     if not found:
         return False
     proofs = f"proofs/{function.name[len(crate) + 2 :].replace('::', '/')}/"
-    inside = function.first - 2 <= int(found[2]) <= function.last + 1
+    inside = function.begin <= int(found[2]) <= function.last + 1
     return found[1].startswith(proofs) or (found[1] == function.file and inside)

@@ -1,21 +1,21 @@
-"""Runs the checks of `edits` side by side, as many as processors and memory allow, each for a bounded time."""
+"""Runs the checks of `edits` side by side, as processors and memory allow, for a bounded time."""
 
 from __future__ import annotations
 
 import os
-import resource
 import shutil
 import signal
 import subprocess
 import tempfile
 import time
 from concurrent.futures import FIRST_COMPLETED, Future, ThreadPoolExecutor, wait
-from contextlib import contextmanager, suppress
+from contextlib import contextmanager
 from dataclasses import dataclass
 from pathlib import Path
+from threading import Event
 from typing import Any, Callable, Iterator, Optional
 
-from edit_kit import LIBRARY_FILES, rt
+from edit_kit import rattle, rt
 from edit_rounds import Round
 
 ROUND_SECONDS = 1800  # of the check of some functions
@@ -25,12 +25,12 @@ TELLS = 30  # seconds between two lines that say what is being done
 SHARE = 0.55  # of the memory that rt plans for a check of the whole crate
 LEAVES = 0.85  # of the free memory
 
-_children: set[int] = set()
+_left = Event()  # set once what still runs is to be killed
 
 
 @dataclass(frozen=True)
 class Ended:
-    """What a check wrote and ended with, and the seconds and processor seconds that it took. One that did not end in time was killed."""
+    """What a check wrote and ended with, and what it took. A late one was killed."""
 
     turn: Round
     check: subprocess.CompletedProcess[str]
@@ -47,36 +47,35 @@ def need(turn: Round) -> int:
 
 def run(turn: Round) -> Ended:
     """Checks a copy of the crate with the texts of the round in place of its own."""
-    crate = turn.crate
+    crate, limit = turn.crate, WHOLE_SECONDS if turn.is_whole else ROUND_SECONDS
     with tempfile.TemporaryDirectory(prefix=f"edits-{os.getpid()}-") as room:
-        for part in LIBRARY_FILES:
+        for part in rt().rtlib.PARTS:
             if os.path.isdir(f"{crate.folder}/{part}"):
                 shutil.copytree(f"{crate.folder}/{part}", f"{room}/{part}")
         for path, text in turn.texts.items():
             Path(room, path).write_text(text, encoding="utf-8")
-        words = [rt().rtlib.RATTLE, "check", *crate.words(["--jobs", "1", *turn.flags()], keeps=False)]
+        words = [rattle(), "check", *crate.words(["--jobs", "1", *turn.flags()], keeps=False)]
         with open(f"{room}/said", "w+", encoding="utf-8", errors="replace") as said:
             start = time.monotonic()
-            child = subprocess.Popen([*rt().rtlib.guarded(), *words], cwd=room, stdin=subprocess.DEVNULL, stdout=said, stderr=subprocess.STDOUT)
-            _children.add(child.pid)
-            status, used, is_late = _await(child, WHOLE_SECONDS if turn.is_whole else ROUND_SECONDS)
+            status, used, is_late = _checked(words, room, said, limit)
             said.seek(0)
-            text = said.read()
-    ended = subprocess.CompletedProcess(words, status, text)
-    return Ended(turn, ended, time.monotonic() - start, used.ru_utime + used.ru_stime, used.ru_maxrss << 10, is_late)
+            check = subprocess.CompletedProcess(words, status, said.read())
+    processor, memory = used.ru_utime + used.ru_stime, used.ru_maxrss << 10
+    return Ended(turn, check, time.monotonic() - start, processor, memory, is_late)
 
 
-def _await(child: subprocess.Popen[bytes], seconds: float) -> tuple[int, Any, bool]:
-    """The status of a child, what it used, and whether it had to be killed since it did not end in time."""
-    end, is_late = time.monotonic() + seconds, False
+def _checked(words: list[str], room: str, said: Any, limit: float) -> tuple[int, Any, bool]:
+    """The status of a command, what it used, and whether it was killed at its limit."""
+    given: dict[str, Any] = {"stdin": subprocess.DEVNULL, "stdout": said}
+    child = subprocess.Popen([*rt().rtlib.guarded(), *words], cwd=room, stderr=said, **given)
+    end, is_late = time.monotonic() + limit, False
     while True:
         number, status, used = os.wait4(child.pid, os.WNOHANG)
         if number:
-            _children.discard(child.pid)
             child.returncode = os.waitstatus_to_exitcode(status)
             return child.returncode, used, is_late
-        if time.monotonic() > end and not is_late:
-            is_late = True
+        is_late = is_late or time.monotonic() > end
+        if is_late or _left.is_set():
             os.kill(child.pid, signal.SIGKILL)
         time.sleep(LOOKS)
 
@@ -86,10 +85,9 @@ def _ending() -> Iterator[None]:
     """If the block is left early, the checks that run end with it."""
     try:
         yield
-    finally:
-        for child in [*_children]:
-            with suppress(OSError):
-                os.kill(child, signal.SIGKILL)
+    except BaseException:
+        _left.set()
+        raise
 
 
 class Lanes:
@@ -108,11 +106,13 @@ class Lanes:
 
     def _next(self) -> Optional[Round]:
         """The first that there is memory for. One alone runs however little there is."""
+        if len(self.running) >= self.jobs:
+            return None
         left = self.memory - sum(need(turn) for turn, _ in self.running.values())
-        found = next((turn for turn in self.waiting if need(turn) <= left or not self.running), None)
-        if found is not None and len(self.running) < self.jobs:
-            self.waiting.remove(found)
-            return found
+        for turn in self.waiting:
+            if need(turn) <= left or not self.running:
+                self.waiting.remove(turn)
+                return turn
         return None
 
     def run(self, take: Callable[[Ended], None], left: Callable[[], str]) -> None:
@@ -131,13 +131,12 @@ class Lanes:
                     told = time.monotonic()
                 if time.monotonic() - told >= TELLS:
                     told = time.monotonic()
-                    self.tell(f"{left()}; {told - self.begun:.0f} s so far; being checked: {', '.join(self._names())}")
+                    so_far = f"{told - self.begun:.0f} s so far"
+                    self.tell(f"{left()}; {so_far}; being checked: {', '.join(self._names())}")
 
     def _names(self) -> list[str]:
         now = time.monotonic()
-        return [f"{turn.crate.name} ({len(turn.edits)}, {now - since:.0f} s)" for turn, since in self.running.values()]
-
-
-def processor_seconds() -> float:
-    """What this process and its children have used."""
-    return sum(used.ru_utime + used.ru_stime for used in map(resource.getrusage, (resource.RUSAGE_SELF, resource.RUSAGE_CHILDREN)))
+        return [
+            f"{turn.crate.name} ({len(turn.edits)}, {now - since:.0f} s)"
+            for turn, since in self.running.values()
+        ]

@@ -1,4 +1,4 @@
-"""checks/edits: which edits of a small crate are refused, and for what; beside `rt must-fail`, which tries one after the other."""
+"""checks/edits: which edits of a small crate are refused, and for what, beside `rt must-fail`."""
 
 from __future__ import annotations
 
@@ -59,11 +59,13 @@ ANSWERS = """use Rattle.tiny.proofs.lower.Goals as goal
 pub returns : goal.returns
 returns c = c.least.ensures.second
 """
-# What each edit changes, and what rt makes of it.
+# What each edit changes, and what rt makes of it. What is said to be the third as the first means
+# the same as before, and calls what another edit changes.
+TAKEN = "refused, as it must be (only because a proof file names"
 EDITS = {
     "greater_of_two": ("        return a;", "        return b;", "refused"),
-    "third_is_first": ("    least(lesser, c)", "    least(c, lesser)", "NOT REFUSED"),  # it means the same, and calls what another edit changes
-    "name_is_gone": ("    least(a, b)", "    if a < b { a } else { b }", "refused, as it must be (only because a proof file names"),
+    "third_is_first": ("    least(lesser, c)", "    least(c, lesser)", "NOT REFUSED"),
+    "name_is_gone": ("    least(a, b)", "    if a < b { a } else { b }", TAKEN),
     "ten_is_few": ("const MOST: u32 = 10;", "const MOST: u32 = 11;", "refused"),
     "no_such_text": ("    most(a, b)", "    least(a, b)", "BAD EDIT"),
     "no_such_words": ("    n < MOST", "    n < MOST +", "BAD EDIT"),
@@ -79,21 +81,24 @@ class Crate(InFolder):
     def setUp(self) -> None:
         super().setUp()
         self.crate = self.folder / "crates/tiny"
-        for name in (".git", "crates/tiny/src", "crates/tiny/proofs/lower", "crates/tiny/edits", "crates/tiny/must-fail"):
-            (self.folder / name).mkdir(parents=True)
+        for name in ("src", "proofs/lower", "edits", "must-fail"):
+            (self.crate / name).mkdir(parents=True)
+        (self.folder / ".git").mkdir()
         self.write("crates.txt", "tiny:\n")
         self.write("crates/tiny/src/lib.rt", CODE)
         self.write("crates/tiny/proofs/lower/Answers.antt", ANSWERS)
 
     def edit(self, folder: str, name: str) -> Path:
         old, new, _ = EDITS[name]
-        return Path(self.write(f"crates/tiny/{folder}/{name}.edit", f"file: src/lib.rt\nold: {old}\nnew: {new}\n"))
+        text = f"file: src/lib.rt\nold: {old}\nnew: {new}\n"
+        return Path(self.write(f"crates/tiny/{folder}/{name}.edit", text))
 
 
 @needs_rt
 class Tried(Crate):
     def tried(self, *words: str) -> subprocess.CompletedProcess[str]:
-        return subprocess.run([str(ROOT / "checks/edits"), "--in", str(self.folder), *words], capture_output=True, text=True)
+        command = [str(ROOT / "checks/edits"), "--in", str(self.folder), *words]
+        return subprocess.run(command, capture_output=True, text=True)
 
     def test_an_edit_of_each_class(self) -> None:
         for name in EDITS:
@@ -101,52 +106,99 @@ class Tried(Crate):
         for name in BY_RT:
             self.edit("must-fail", name)
         ran = self.tried("--anew")
-        self.assertEqual((ran.stdout.splitlines()[-1], ran.returncode, ran.stderr), ("3 passed, 3 failed", 1, ""))
+        ended = ran.stdout.splitlines()[-1], ran.returncode, ran.stderr
+        self.assertEqual(ended, ("3 passed, 3 failed", 1, ""))
         for name, (_, _, said) in EDITS.items():
             shown = re.findall(rf"^edits: tiny/{name}\.edit: (.*)", ran.stdout, re.M)
-            self.assertEqual([each.startswith(said) for each in shown], [] if said == "refused" else [True], f"{name}: {shown}")
-        by_rt = subprocess.run(["rt", "must-fail"], cwd=self.folder, capture_output=True, text=True).stdout
+            known = [each.startswith(said) for each in shown]
+            self.assertEqual(known, [] if said == "refused" else [True], f"{name}: {shown}")
+        by_rt = ["rt", "must-fail"]
+        told = subprocess.run(by_rt, cwd=self.folder, capture_output=True, text=True).stdout
         for name in BY_RT:
-            self.assertIn(f"must-fail tiny/{name}.edit: {EDITS[name][2]}", by_rt)
+            self.assertIn(f"must-fail tiny/{name}.edit: {EDITS[name][2]}", told)
 
-    def test_what_was_refused_is_kept_until_something_changes(self) -> None:
-        self.edit("edits", "greater_of_two")
+    def test_what_was_found_is_kept_until_something_changes(self) -> None:
+        self.edit("edits", "no_such_words")
         self.write("crates/tiny/src/lib.rt", CODE.replace("Numbers", str(self.folder)))
         self.assertNotIn("by an earlier run", self.tried().stdout)
-        again = self.tried()
-        self.assertIn("1 of 1 was tried by an earlier run", again.stdout)
-        self.assertEqual((again.stdout.splitlines()[-1], again.returncode), ("1 passed, 0 failed", 0))
+        again = self.tried().stdout
+        self.assertIn("1 of 1 was tried by an earlier run", again)
+        self.assertEqual(again.splitlines()[-1], "0 passed, 1 failed")
+        self.write("crates/tiny/src/lib.rt", CODE.replace("Numbers", f"{self.folder} too"))
+        self.assertNotIn("by an earlier run", self.tried().stdout)
 
     def test_what_cannot_be_tried(self) -> None:
-        for words, said in ((("huge",), "crates.txt has no crate huge"), (("--jobs", "-1"), "--jobs must be above 0")):
-            ran = self.tried(*words)
-            self.assertEqual((ran.returncode, ran.stdout, said in ran.stderr), (2, "", True), ran.stderr)
+        for word, said in (("huge", "crates.txt has no crate huge"), ("--jobs=-1", "above 0")):
+            ran = self.tried(word)
+            self.assertEqual((ran.returncode, ran.stdout), (2, ""))
+            self.assertIn(said, ran.stderr)
+
+
+IMPLS = """impl<'a, T: Ord> Pair<'a, T> {
+    fn f(&self) {
+    }
+}
+impl Pair<'_, Text> {
+    fn g() {
+    }
+}
+impl<C: Fn(u8) -> u8> From<io::Error<u8>> for crate::Fault<C, Text> {
+    fn from() {
+    }
+}
+impl Drop for Handle {
+    fn drop(&mut self) {
+    }
+}
+mod apart {
+    impl Handle {
+        fn close(&mut self) {
+        }
+    }
+}
+struct Handle(u8);
+"""
+NAMES = ["Pair::f", "Pair+Text::g", "FaultTextFromError::from", "Handle::drop", "Handle::close"]
+BRACES = """mod a {
+    const fn f() -> char
+        ensures { (λ x. x) 1 ≡ 1 }
+    {
+        // }
+        g("}", '}')
+    }
+}
+
+#[cycle(both)]
+fn h() {
+}
+"""
 
 
 @needs_rt
 class Functions(Crate):
-    def names(self, code: str) -> list[str]:
+    def functions(self, code: str) -> list[Function]:
         self.write("crates/tiny/src/lib.rt", code)
-        return [each.name for each in functions_of(str(RATTLE), "tiny", self.crate)]
+        return functions_of(str(RATTLE), "tiny", self.crate)
 
     def test_each_has_its_name_and_the_lines_of_its_body(self) -> None:
-        found = {each.name: (each.first, each.last) for each in functions_of(str(RATTLE), "tiny", self.crate)}
-        self.assertEqual(found, {"tiny::least": (14, 17), "tiny::least_of_three": (25, 26), "tiny::is_few": (33, 33), "tiny::lower": (40, 40)})
+        found = {each.name: (each.begin, each.first, each.last) for each in self.functions(CODE)}
+        least = {"tiny::least": (10, 14, 17), "tiny::least_of_three": (21, 25, 26)}
+        others = {"tiny::is_few": (30, 33, 33), "tiny::lower": (37, 40, 40)}
+        self.assertEqual(found, {**least, **others})
 
     def test_those_of_impls_have_the_names_of_type_and_trait(self) -> None:
-        code = "impl<'a, T: Ord> Pair<'a, T> {\n    fn f(&self) {\n    }\n}\nimpl Pair<'_, Text> {\n    fn g() {\n    }\n}\nimpl From<io::Error<u8>> for crate::Fault {\n    fn from() {\n    }\n}\n"
-        self.assertEqual(self.names(code), ["tiny::Pair::f", "tiny::Pair+Text::g", "tiny::FaultFromError::from"])
+        found = [each.name for each in self.functions(IMPLS)]
+        self.assertEqual(found, [f"tiny::{name}" for name in NAMES])
 
     def test_braces_in_texts_and_clauses_are_none(self) -> None:
-        code = 'mod a {\n    const fn f() -> char\n        ensures { (λ x. x) 1 ≡ 1 }\n    {\n        // }\n        g("}", \'}\')\n    }\n}\n#[cycle(both)]\nfn h() {\n}\n'
-        self.write("crates/tiny/src/lib.rt", code)
-        found = functions_of(str(RATTLE), "tiny", self.crate)
-        self.assertEqual([(each.name, each.first, each.last, each.is_const, each.cycle) for each in found],
-                         [("tiny::a::f", 5, 6, True, ""), ("tiny::h", 11, 10, False, "cycle both")])
+        f, h = self.functions(BRACES)
+        self.assertEqual((f.name, f.first, f.last, f.is_const), ("tiny::a::f", 5, 6, True))
+        self.assertEqual((h.name, h.begin, h.first, h.last), ("tiny::h", 10, 12, 11))
+        self.assertEqual((f.together, h.together), ("tiny::a::f", "cycle both"))
 
 
 def function(name: str, first: int, last: int, **more: bool) -> Function:
-    return Function(f"tiny::{name}", "src/lib.rt", first, last, **more)
+    return Function(f"tiny::{name}", "src/lib.rt", first, first, last, **more)
 
 
 TEXTS = {"src/lib.rt": "one\ntwo\nthree\nfour\nfive\n"}
@@ -168,10 +220,12 @@ class Rounds(Texts):
         self.assertEqual(rounds[0].flags(), ["--only", "tiny::f", "--only", "tiny::g"])
 
     def test_edits_that_others_may_rest_on_go_alone(self) -> None:
-        const, outside, both = self.edit(("four", "4")), self.edit(("five", "5")), self.edit(("one", "1"), ("three", "3"))
-        rounds = plan(None, [const, self.edit(("two", "2")), outside, both], TEXTS)
-        self.assertEqual([(len(each.edits), each.is_whole) for each in rounds], [(1, False), (1, False), (1, True), (1, False)])
-        self.assertEqual(rounds[2].flags(), [])
+        const, outside = self.edit(("four", "4")), self.edit(("five", "5"))
+        both = self.edit(("one", "1"), ("three", "3"))
+        first, *lone = plan(None, [const, self.edit(("two", "2")), outside, both], TEXTS)
+        self.assertEqual([each.edits for each in lone], [[const], [outside], [both]])
+        self.assertEqual([each.is_whole for each in (first, *lone)], [False, False, True, False])
+        self.assertEqual(lone[1].flags(), [])
 
     def test_a_text_that_another_edit_doubles_waits(self) -> None:
         rounds = plan(None, [self.edit(("one", "three")), self.edit(("three", "3"))], TEXTS)
@@ -179,9 +233,15 @@ class Rounds(Texts):
 
 
 OWN = "note: src/lib.rt:1:1: it is not proved that what the function ensures holds"
-REFUSED = "fn tiny::f: no proof: expected answers in ./proofs/f/Answers.antt; `search` did not prove `returns`"
+OPEN = "no proof: expected answers in ./proofs/f/Answers.antt; `search` did not prove `returns`"
+REFUSED = f"fn tiny::f: {OPEN}"
+CLOSURE = f"fn tiny::fn::f::any+FnMut::call_mut: {OPEN}"
+BY_CLOSURE = "fn tiny::f: no proof: it calls `tiny::fn::f::any`, which is not proved"
 BEHIND = "fn tiny::g: no proof: it calls `tiny::f`, which is not proved"
 BOTH = "fn tiny::g: not proved; it calls `tiny::f`, which is not proved"
+ERROR = "./proofs/g/Answers.antt:3:1: error: "
+WRONG = f"{ERROR}`returns`: expected type `1`, but this has type `3`"
+RESTS = f"{ERROR}1 declaration that depends on `met`, which was rejected, was not checked: returns"
 
 
 @needs_rt
@@ -196,21 +256,27 @@ class Judged(Texts):
         return [edit.path.stem for edit in seen], [edit.path.stem for edit in guilty]
 
     def test_for_its_own_sake(self) -> None:
-        self.assertEqual(self.judged(OWN, REFUSED, BEHIND, "only=2 proved=0"), (["one"], []))
-        error = "./proofs/g/Answers.antt:3:1: error: `returns`: expected type `1`, but this has type `3`"
-        self.assertEqual(self.judged(OWN, REFUSED, error, BOTH, "only=2 proved=0"), (["one", "three"], []))
+        only = "only=2 proved=0"
+        self.assertEqual(self.judged(OWN, REFUSED, BEHIND, only), (["one"], []))
+        self.assertEqual(self.judged(OWN, REFUSED, WRONG, BOTH, only), (["one", "three"], []))
+
+    def test_a_closure_is_of_its_function(self) -> None:
+        only, other = "only=2 proved=0", CLOSURE.replace("::f:", "::ff:")
+        self.assertEqual(self.judged(OWN, CLOSURE, BY_CLOSURE, only), (["one"], []))
+        self.assertEqual(self.judged(OWN, other, only), ([], []))
 
     def test_what_rests_on_another_is_not(self) -> None:
-        error = "./proofs/g/Answers.antt:3:1: error: 1 declaration that depends on `met`, which was rejected, was not checked: returns"
-        self.assertEqual(self.judged(OWN, REFUSED, error, BOTH, "only=2 proved=0"), (["one"], []))
+        self.assertEqual(self.judged(OWN, REFUSED, RESTS, BOTH, "only=2 proved=0"), (["one"], []))
 
     def test_a_check_that_came_to_no_end_shows_nothing(self) -> None:
-        self.assertEqual(self.judged(OWN, REFUSED, BEHIND, "logic=not-proved"), ([], ["one", "three"]))
-        self.assertEqual(self.judged(OWN, REFUSED, "only=2 proved=1", status=3), ([], ["one", "three"]))
-        self.assertEqual(self.judged("", status=-9), ([], ["one", "three"]))
+        none: tuple[list[str], list[str]] = ([], ["one", "three"])
+        self.assertEqual(self.judged(OWN, REFUSED, BEHIND, "logic=not-proved"), none)
+        self.assertEqual(self.judged(OWN, REFUSED, "only=2 proved=1", status=3), none)
+        self.assertEqual(self.judged("", status=-9), none)
 
     def test_a_text_that_cannot_be_read_is_told_from_the_others(self) -> None:
-        self.assertEqual(self.judged("src/lib.rt:3:1: error[unexpected-token]: expected expression"), ([], ["three"]))
+        syntax = "src/lib.rt:3:1: error[unexpected-token]: expected expression"
+        self.assertEqual(self.judged(syntax), ([], ["three"]))
         scope = "src/lib.rt:1:1: error: `x` is not in scope"
         self.assertEqual(self.judged(scope, OWN, REFUSED, "only=2 proved=1"), ([], ["one"]))
 
