@@ -21,7 +21,8 @@ import here as here  # finds `parts`
 from parts.command import Fault
 
 USED = """must_fail read_edit unread checked Kept need free processors handles_of STORE
-REFUSED BAD UNSURE""".split()
+REFUSED AT_LIMIT BAD UNSURE""".split()
+AT_LIMIT = "NOT TRIED: the prover met a limit (choose a change that it refuses sooner)"
 UNUSABLE = 2  # the status of a run that can try nothing
 
 
@@ -135,7 +136,10 @@ def class_of(crate: Any, edit: Path, ended: subprocess.CompletedProcess[str]) ->
         kind, said = module.must_fail(crate, str(edit), [])
     finally:
         module.checked = before
-    return kind, said.replace("must-fail ", "", 1)
+    name, _, told = said.partition(": ")
+    if kind == module.AT_LIMIT:
+        kind, told = module.UNSURE, f"{AT_LIMIT}: {told.rpartition('): ')[2]}"
+    return kind, f"{name.replace('must-fail ', '', 1)}: {told}"
 
 
 def unreadable(crate: Any, edit: Path) -> Optional[tuple[str, str]]:

@@ -17,7 +17,7 @@ PLACE = re.compile(r"(?:note: )?(?:\./)?((?:src|specs|proofs)/\S+?):(\d+):\d+: "
 ASKED = re.compile(r"only=\d+ proved=\d+")
 NOT_PROVED = "logic=not-proved"
 REFUSALS = ("not proved", "no proof")
-CALLS = re.compile(r"it calls .*, which (is|are) not proved")
+OPEN = "did not prove"  # a goal of the function itself
 DEPENDS = re.compile(r"was rejected|(was|were) not checked|was not admitted")
 
 
@@ -174,11 +174,9 @@ def _seen_alone(
     """What the check says of the edit's function, if it refuses that for the edit's sake."""
     function = edit.functions[0]
     refused = [said for said in _said_of(function, lines) if said.startswith(REFUSALS)]
-    causes = [part for said in refused for part in said.split("; ") if not CALLS.search(part)]
     own = [line for line in lines if _is_of(function, turn.crate.name, line)]
     errors = [line for line in own if ": error" in line and not DEPENDS.search(line)]
-    is_open = any("did not prove" in part for part in causes)
-    if not refused or not (errors or is_open):
+    if not refused or not (errors or any(OPEN in said for said in refused)):
         return None
     return subprocess.CompletedProcess([], 1, "\n".join([*own, NOT_PROVED]))
 

@@ -7,7 +7,9 @@ import shutil
 import subprocess
 import unittest
 from pathlib import Path
+from types import SimpleNamespace
 
+from edit_kit import class_of, rt
 from edit_rounds import Edit, Round, judge, plan, read
 from edit_source import Function, functions_of
 from tests.support import ROOT, InFolder
@@ -127,11 +129,29 @@ class Tried(Crate):
         self.write("crates/tiny/src/lib.rt", CODE.replace("Numbers", f"{self.folder} too"))
         self.assertNotIn("by an earlier run", self.tried().stdout)
 
+    def test_a_limit_of_the_prover_is_no_refusal(self) -> None:
+        crate = SimpleNamespace(name="tiny", folder=str(self.crate))
+        limit = "antt ran out of the steps that the check of one declaration may take"
+        said = f"src/lib.rt:10:1: error: {limit}\nrattle: no verdict\n"
+        check = subprocess.CompletedProcess([], 3, said)
+        kind, said = class_of(crate, self.edit("edits", "greater_of_two"), check)
+        self.assertEqual(kind, rt().UNSURE)
+        self.assertRegex(said, "^tiny/greater_of_two.edit: NOT TRIED: the prover met a limit")
+
     def test_what_cannot_be_tried(self) -> None:
         for word, said in (("huge", "crates.txt has no crate huge"), ("--jobs=-1", "above 0")):
             ran = self.tried(word)
             self.assertEqual((ran.returncode, ran.stdout), (2, ""))
             self.assertIn(said, ran.stderr)
+
+    def test_a_library_that_is_not_built(self) -> None:
+        self.edit("edits", "greater_of_two")
+        self.write("crates.txt", "low:\ntiny: low\n")
+        (self.folder / "crates/low/src").mkdir(parents=True)
+        self.write("crates/low/src/lib.rt", f"//! {self.folder}\n")
+        ran = self.tried()
+        self.assertEqual((ran.returncode, ran.stdout), (2, ""))
+        self.assertIn("edits: the library low is not built of the text that is there", ran.stderr)
 
 
 IMPLS = """impl<'a, T: Ord> Pair<'a, T> {
@@ -249,7 +269,7 @@ class Judged(Texts):
     """What the output of a check says of each edit."""
 
     def judged(self, *lines: str, status: int = 1) -> tuple[list[str], list[str]]:
-        turn = Round(type("Crate", (), {"name": "tiny"}), [], TEXTS)
+        turn = Round(SimpleNamespace(name="tiny"), [], TEXTS)
         for edit in (self.edit(("one", "1")), self.edit(("three", "3"))):
             self.assertTrue(turn.takes(edit))
         seen, guilty = judge(turn, subprocess.CompletedProcess([], status, "\n".join(lines)))
