@@ -24,7 +24,7 @@ GROUPS = {
     ),
     "program": ("papi_tools", "papi", "papi_c"),
 }
-TESTS = ("crate_tests", "tool_tests", "worked_rows")  # these are not drawn
+TESTS = ("crate_tests", "tool_tests")  # these are not drawn
 LIGHT = ("#e8eaed", "#d6e6f5", "#d9efd8", "#f6e3c5", "#e6dcf3", "#d3eeea", "#f6d7d4")
 DARK = ("#3a3f47", "#1f3f5c", "#23482a", "#5a4420", "#413060", "#1d4a45", "#5e2c29")
 
