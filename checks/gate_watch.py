@@ -1,4 +1,5 @@
-"""Runs the parts of the gate one by one, with a line at times that says how far it is, and adds up what they took and counted."""
+"""Runs the parts of the gate one by one, with a line at times that says how far it is, and adds
+up what they took and counted."""
 
 from __future__ import annotations
 
@@ -89,13 +90,19 @@ def at_work(job: Job, seconds: float) -> str:
 def state(watch: Watch, output: Output, begun: float) -> str:
     """How far it is, as a line."""
     now = time.monotonic()
-    works = ", ".join(at_work(job, now - since) for job, since in watch.since.items()) or "nothing is being proved"
+    works = (
+        ", ".join(at_work(job, now - since) for job, since in watch.since.items())
+        or "nothing is being proved"
+    )
     crates = len(read_crates(ROOT / "crates.txt"))
     done = sum(kind == PROOF for _, kind in output.done)
-    return f"gate: {minutes(now - begun)}, {minutes(watch.total())} of processor: {works}; {done} of {crates} crates are done\n"
+    took = f"{minutes(now - begun)}, {minutes(watch.total())} of processor"
+    return f"gate: {took}: {works}; {done} of {crates} crates are done\n"
 
 
-def follow(child: subprocess.Popen[bytes], output: Output, watch: Watch, every: float = EVERY) -> None:
+def follow(
+    child: subprocess.Popen[bytes], output: Output, watch: Watch, every: float = EVERY
+) -> None:
     """Passes on what a command writes until it ends, and says how far it is."""
     begun = told = time.monotonic()
     while child.poll() is None:
@@ -133,9 +140,17 @@ def run_part(folder: Path, name: str, command: list[str], every: float = EVERY) 
     status = child.returncode if child.returncode >= 0 else BY_SIGNAL - child.returncode
     passed, failed = output.count() or (0, 0)
     failed = max(failed, int(status != 0 or not output.count()))
-    processor = after.children_user + after.children_system - before.children_user - before.children_system
+    processor = (
+        after.children_user + after.children_system - before.children_user - before.children_system
+    )
     keep(folder, Part(name, status, time.monotonic() - begun, processor, passed, failed))
-    keep_costs({job: seconds for job, seconds in watch.end().items() if job[1] == EDITS or job in output.done})
+    keep_costs(
+        {
+            job: seconds
+            for job, seconds in watch.end().items()
+            if job[1] == EDITS or job in output.done
+        }
+    )
     return status
 
 
@@ -146,9 +161,17 @@ def keep(folder: Path, part: Part) -> None:
 
 def end(folder: Path) -> int:
     """Says how long each part took, and what all have counted."""
-    parts = [Part(**json.loads(path.read_text(encoding="utf-8"))) for path in sorted(folder.glob("*.json"))]
-    told = [f"{part.name} {minutes(part.seconds)} ({minutes(part.processor)} of processor)" for part in parts]
-    total = f"{minutes(sum(part.seconds for part in parts))} in all ({minutes(sum(part.processor for part in parts))} of processor)"
+    parts = [
+        Part(**json.loads(path.read_text(encoding="utf-8")))
+        for path in sorted(folder.glob("*.json"))
+    ]
+    told = [
+        f"{part.name} {minutes(part.seconds)} ({minutes(part.processor)} of processor)"
+        for part in parts
+    ]
+    processor = sum(part.processor for part in parts)
+    wall = sum(part.seconds for part in parts)
+    total = f"{minutes(wall)} in all ({minutes(processor)} of processor)"
     failed = sum(part.failed for part in parts)
     print(f"gate: {', '.join([*told, total])}")
     print(f"{sum(part.passed for part in parts)} passed, {failed} failed", flush=True)

@@ -1,4 +1,5 @@
-"""What each crate costs the prover: processor seconds of its proof, its tests and its edits, by watching the processes, and the table that keeps them."""
+"""What each crate costs the prover: processor seconds of its proof, its tests and its edits, by
+watching the processes, and the table that keeps them."""
 
 from __future__ import annotations
 
@@ -21,7 +22,8 @@ Job = tuple[str, str]  # a crate and a kind
 
 @dataclass
 class Process:
-    """A process as /proc shows it. The ticks are its own, and those of its children that have ended."""
+    """A process as /proc shows it. The ticks are its own, and those of its children that have
+    ended."""
 
     parent: int
     begun: int
@@ -50,8 +52,14 @@ def children_of(processes: dict[int, Process]) -> dict[int, list[int]]:
 
 
 def job_of(words: list[str], folder: str) -> Job | None:
-    """What a process proves, by its words and the folder that it works in; nothing if it is not the prover."""
-    if len(words) < 2 or os.path.basename(words[0]) != "rattle" or words[1] not in ("build", "check") or "--crate-name" not in words[:-1]:
+    """What a process proves, by its words and the folder that it works in; nothing if it is not
+    the prover."""
+    if (
+        len(words) < 2
+        or os.path.basename(words[0]) != "rattle"
+        or words[1] not in ("build", "check")
+        or "--crate-name" not in words[:-1]
+    ):
         return None
     crate = words[words.index("--crate-name") + 1]
     if "--only" in words or Path(folder).parts[-2:] != ("crates", crate):
@@ -67,7 +75,9 @@ class Watch:
     seconds: dict[Job, float] = field(default_factory=dict)  # of the processes that have ended
     _known: dict[tuple[int, int], Job] = field(default_factory=dict)
     _live: dict[tuple[int, int], float] = field(default_factory=dict)
-    since: dict[Job, float] = field(default_factory=dict)  # when each that is at work now was seen first
+    since: dict[Job, float] = field(
+        default_factory=dict
+    )  # when each that is at work now was seen first
     _looked: float = 0
 
     def look_at_times(self, every: float) -> None:
@@ -86,19 +96,26 @@ class Watch:
             if key not in self._known:
                 self._learn(key)
             if key in self._known:
-                there[key] = processes[number].ticks / HERTZ  # (those that it has started are in its own when they end)
+                there[key] = (
+                    processes[number].ticks / HERTZ
+                )  # (those that it has started are in its own when they end)
             else:
                 below += children.get(number, [])
         for key in self._live.keys() - there.keys():
             self._end(key)
         self._live.update(there)
         now = time.monotonic()
-        self.since = {job: self.since.get(job, now) for job in sorted({self._known[key] for key in there})}
+        self.since = {
+            job: self.since.get(job, now) for job in sorted({self._known[key] for key in there})
+        }
 
     def _learn(self, key: tuple[int, int]) -> None:
-        """What a process proves. One that was started a moment ago may still be what started it, so nothing is learnt of that."""
+        """What a process proves. One that was started a moment ago may still be what started it,
+        so nothing is learnt of that."""
         with suppress(OSError):
-            words = Path(f"/proc/{key[0]}/cmdline").read_bytes().decode(errors="replace").split("\0")
+            words = (
+                Path(f"/proc/{key[0]}/cmdline").read_bytes().decode(errors="replace").split("\0")
+            )
             job = job_of(words, os.readlink(f"/proc/{key[0]}/cwd"))
             if job:
                 self._known[key] = job
@@ -146,7 +163,17 @@ def known_costs() -> dict[Job, float]:
 def table_text(costs: dict[Job, float]) -> str:
     lines = [",".join(HEAD)]
     for crate in sorted({crate for crate, _ in costs}):
-        lines.append(",".join([crate, *(f"{costs[crate, kind]:.0f}" if (crate, kind) in costs else "" for kind in KINDS)]))
+        lines.append(
+            ",".join(
+                [
+                    crate,
+                    *(
+                        f"{costs[crate, kind]:.0f}" if (crate, kind) in costs else ""
+                        for kind in KINDS
+                    ),
+                ]
+            )
+        )
     return "\n".join(lines) + "\n"
 
 

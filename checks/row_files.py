@@ -3,22 +3,29 @@
 A file of rows has an empty line between two rows. The lines of a row are these:
 
 - `row SENTENCE` says what it shows.
-- `words WORD ..` has the words, and `or WORD ..` further ones with which the same comes. More words may stand below.
-- `script`, with the lines of the file `s` below, each beside its reply: `0 run 3 -> PAPI_OK 2 0`. The line's number, the
-  thread and the call, with which a reply begins, are left out. If the script is refused its lines have no replies.
-- `file NAME` (a stream too), with its lines below. Each row also has the units and the presets of the folder, if it has none of that name itself.
-- `opening N fails`, counted from 1; `NAME fails after N bytes`: its reads fail then (`all`: at its end); `reads give N bytes`
-  at most; `out takes N bytes`, `err takes N bytes`: writes fail then, and their first N bytes are what is expected.
-- `for workers N ..` carries the row out with each of these numbers of workers; `for k from N to M`, `for k below the length
-  of out` and `.. of err` carry it out for each k, which stands as `k` in the settings above.
+- `words WORD ..` has the words, and `or WORD ..` further ones with which the same comes. More
+  words may stand below.
+- `script`, with the lines of the file `s` below, each beside its reply: `0 run 3 -> PAPI_OK 2
+  0`. The line's number, the thread and the call, with which a reply begins, are left out. If the
+  script is refused its lines have no replies.
+- `file NAME` (a stream too), with its lines below. Each row also has the units and the presets
+  of the folder, if it has none of that name itself.
+- `opening N fails`, counted from 1; `NAME fails after N bytes`: its reads fail then (`all`: at
+  its end); `reads give N bytes` at most; `out takes N bytes`, `err takes N bytes`: writes fail
+  then, and their first N bytes are what is expected.
+- `for workers N ..` carries the row out with each of these numbers of workers; `for k from N to
+  M`, `for k below the length of out` and `.. of err` carry it out for each k, which stands as
+  `k` in the settings above.
 - `status N`, if it is not 0.
-- `out` and `err`, with the lines below: the output, after the replies, and the lines on standard error.
-- `notes`, with a line `THREAD SET INDEX PC` below for each note of the handlers; with `--notes` they are expected after the
-  replies too. `notes unread`: the notes are not compared.
+- `out` and `err`, with the lines below: the output, after the replies, and the lines on standard
+  error.
+- `notes`, with a line `THREAD SET INDEX PC` below for each note of the handlers; with `--notes`
+  they are expected after the replies too. `notes unread`: the notes are not compared.
 
-Lines that stand below begin with two blanks. `300 times: LINE` is that line so often, and one that ends in a backslash goes on
-without a newline. Of a reply, or a line of `out`, `err` or `notes`, that ends in three dots only what stands before them is
-compared. A line that begins with `#` is skipped.
+Lines that stand below begin with two blanks. `300 times: LINE` is that line so often, and one
+that ends in a backslash goes on without a newline. Of a reply, or a line of `out`, `err` or
+`notes`, that ends in three dots only what stands before them is compared. A line that begins
+with `#` is skipped.
 """
 
 from __future__ import annotations
@@ -43,15 +50,24 @@ class Row:
     """Words over files, and what is to come of them."""
 
     title: str = ""
-    words: list[str] = field(default_factory=list)  # lists of words with blanks between, each of which gives the same
-    files: list[tuple[str, list[str]]] = field(default_factory=list)  # names and pieces of content, of which the first of a name counts
-    faults: list[tuple[str, Amount]] = field(default_factory=list)  # files whose reads fail, and after how many bytes
+    words: list[str] = field(
+        default_factory=list
+    )  # lists of words with blanks between, each of which gives the same
+    files: list[tuple[str, list[str]]] = field(
+        default_factory=list
+    )  # names and pieces of content, of which the first of a name counts
+    faults: list[tuple[str, Amount]] = field(
+        default_factory=list
+    )  # files whose reads fail, and after how many bytes
     failing: list[int] = field(default_factory=list)  # the openings that fail, from 1
     piece: Amount = ALL  # how many bytes a read gives at most
     out_room: Amount = ALL
     err_room: Amount = ALL
     workers: list[int] = field(default_factory=list)  # none: once, without that option
-    runs: Union[tuple[int, int], str] = (0, 1)  # the numbers k, up to but not including the second, or the output whose length ends them
+    runs: Union[tuple[int, int], str] = (
+        0,
+        1,
+    )  # the numbers k, up to but not including the second, or the output whose length ends them
     status: int = 0
     out: str = ""
     err: str = ""
@@ -104,7 +120,8 @@ class _Reader:
         self.take_content: Callable[[str], None] | None = None
 
     def take(self, line: str) -> None:
-        """A line that begins a section, a setting, or a line of content. Raises NoRow if it is none."""
+        """A line that begins a section, a setting, or a line of content. Raises NoRow if it is
+        none."""
         if line.startswith("  "):
             if self.take_content is None:
                 raise NoRow(line)
@@ -125,7 +142,11 @@ class _Reader:
         elif keyword == "file":
             self._begin_file(rest, self._take_line)
         elif keyword in ("out", "err", "notes") and not rest:
-            self.take_content = {"out": self._take_out, "err": self._take_err, "notes": self._take_note}[keyword]
+            self.take_content = {
+                "out": self._take_out,
+                "err": self._take_err,
+                "notes": self._take_note,
+            }[keyword]
         else:
             return False
         return True
@@ -150,7 +171,9 @@ class _Reader:
         self._take_line(f"{times} times: {call}")
         if reply:
             numbers = range(self.calls + 1, self.calls + times + 1)
-            self.row.out += "".join(f"{number} {thread} {more.partition(' ')[0]} {reply}\n" for number in numbers)
+            self.row.out += "".join(
+                f"{number} {thread} {more.partition(' ')[0]} {reply}\n" for number in numbers
+            )
         self.calls += times
 
     def _take_out(self, line: str) -> None:
@@ -207,7 +230,11 @@ def _take_fault(row: Row, name: str, text: str) -> bool:
 def _take_amount(row: Row, subject: str, text: str) -> bool:
     amount = amount_of(text)
     if amount is not None:
-        setattr(row, {"out takes": "out_room", "err takes": "err_room", "reads give": "piece"}[subject], amount)
+        setattr(
+            row,
+            {"out takes": "out_room", "err takes": "err_room", "reads give": "piece"}[subject],
+            amount,
+        )
     return amount is not None
 
 

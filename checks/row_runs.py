@@ -1,4 +1,5 @@
-"""Carries out worked rows with the built program, over files of a folder, and compares what comes."""
+"""Carries out worked rows with the built program, over files of a folder, and compares what
+comes."""
 
 from __future__ import annotations
 
@@ -27,7 +28,11 @@ class RowRun:
     def given(self) -> list[str]:
         """The words as the program is given them."""
         words = self.words.split()
-        return words[:1] + ([] if self.workers is None else ["--workers", str(self.workers)]) + words[1:]
+        return (
+            words[:1]
+            + ([] if self.workers is None else ["--workers", str(self.workers)])
+            + words[1:]
+        )
 
     def named(self) -> str:
         return f"{self.words} (k {self.k}, workers {self.workers or 1})"
@@ -54,9 +59,13 @@ def text_of(written: bytes) -> str:
 
 
 def agrees(given: str, came: str) -> bool:
-    """Whether a text is the given one, line by line. If a given line ends in three dots, only what stands before them is compared."""
+    """Whether a text is the given one, line by line. If a given line ends in three dots, only
+    what stands before them is compared."""
     wanted, lines = given.split("\n"), came.split("\n")
-    alike = (line.startswith(want[: -len(FRONT)]) if want.endswith(FRONT) else line == want for want, line in zip(wanted, lines))
+    alike = (
+        line.startswith(want[: -len(FRONT)]) if want.endswith(FRONT) else line == want
+        for want, line in zip(wanted, lines)
+    )
     return len(wanted) == len(lines) and all(alike)
 
 
@@ -68,12 +77,19 @@ def expected(text: str, room: int) -> str:
 def shows_notes(row: Row, words: list[str]) -> bool:
     """Whether the notes of a run are to be seen in another one, which shows them."""
     tool = words[0] if words else ""
-    return row.gives_notes and row.out_room == ALL and NOTES not in words and (tool == "papi_run" or (tool == "papi_profil" and row.status == 0))
+    return (
+        row.gives_notes
+        and row.out_room == ALL
+        and NOTES not in words
+        and (tool == "papi_run" or (tool == "papi_profil" and row.status == 0))
+    )
 
 
 def with_notes(words: list[str]) -> list[str]:
     """The words of the run that shows the notes of another one: papi_run over the same files."""
-    picked = [place for place, word in enumerate(words) if words[0] == "papi_profil" and word in PICKING]
+    picked = [
+        place for place, word in enumerate(words) if words[0] == "papi_profil" and word in PICKING
+    ]
     left_out = {0, *picked, *(place + 1 for place in picked)}
     return ["papi_run", NOTES, *(word for place, word in enumerate(words) if place not in left_out)]
 
@@ -92,7 +108,10 @@ class Rows:
         came = self.program.run(list(words), folder, **how)
         if not shows_notes(row, words):
             return Came(came)
-        return Came(came, self._notes(came, self.program.run(list(with_notes(words)), folder, **how), words[0]))
+        return Came(
+            came,
+            self._notes(came, self.program.run(list(with_notes(words)), folder, **how), words[0]),
+        )
 
     def _notes(self, came: Run, shown: Run, tool: str) -> str:
         """The lines of notes of a run that shows them. It must else be as the one that does not."""
@@ -109,8 +128,14 @@ class Rows:
         if row.failing:
             told["FAILING_OPENINGS"] = " ".join(map(str, row.failing))
         if row.faults:
-            told["FAILING_READS"] = " ".join(f"{name} {in_run(after, k)}" for name, after in row.faults)
-        for variable, amount in (("FAILING_PIECE", row.piece), ("FAILING_OUT", row.out_room), ("FAILING_ERR", row.err_room)):
+            told["FAILING_READS"] = " ".join(
+                f"{name} {in_run(after, k)}" for name, after in row.faults
+            )
+        for variable, amount in (
+            ("FAILING_PIECE", row.piece),
+            ("FAILING_OUT", row.out_room),
+            ("FAILING_ERR", row.err_room),
+        ):
             if amount != ALL:
                 told[variable] = str(in_run(amount, k))
         return {"env": {**os.environ, **told, "LD_PRELOAD": str(self.failing)}} if told else {}
@@ -127,12 +152,16 @@ class Rows:
 
 def needs_failing(row: Row) -> bool:
     """Whether calls fail in the runs of a row."""
-    return bool(row.failing or row.faults) or any(amount != ALL for amount in (row.piece, row.out_room, row.err_room))
+    return bool(row.failing or row.faults) or any(
+        amount != ALL for amount in (row.piece, row.out_room, row.err_room)
+    )
 
 
 def is_as_said(row: Row, run: RowRun, came: Came) -> bool:
     """Whether what came of a run is what the row says."""
-    out, err = expected(row.out, in_run(row.out_room, run.k)), expected(row.err, in_run(row.err_room, run.k))
+    out, err = expected(row.out, in_run(row.out_room, run.k)), expected(
+        row.err, in_run(row.err_room, run.k)
+    )
     return (
         came.run.status == row.status
         and agrees(out, text_of(came.run.out))
@@ -143,5 +172,11 @@ def is_as_said(row: Row, run: RowRun, came: Came) -> bool:
 
 def report(row: Row, run: RowRun, came: Came) -> str:
     """What is said of a run that differs."""
-    texts = (("out", text_of(came.run.out)), ("err", text_of(came.run.err)), ("notes", came.notes or ""))
-    return f"differs: {row.title}\n{run.named()}\n{ended(came.run)}\n" + "".join(f"{name}\n{text}" for name, text in texts)
+    texts = (
+        ("out", text_of(came.run.out)),
+        ("err", text_of(came.run.err)),
+        ("notes", came.notes or ""),
+    )
+    return f"differs: {row.title}\n{run.named()}\n{ended(came.run)}\n" + "".join(
+        f"{name}\n{text}" for name, text in texts
+    )

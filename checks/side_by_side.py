@@ -1,4 +1,5 @@
-"""Runs commands side by side, as many as there are processors, each with a bounded time, and says at times what is at work."""
+"""Runs commands side by side, as many as there are processors, each with a bounded time, and
+says at times what is at work."""
 
 from __future__ import annotations
 
@@ -16,7 +17,7 @@ from parts.command import uninterrupted
 
 EVERY = 8.0  # seconds, between two lines that say what is at work
 LOOK = 0.1
-COUNT = re.compile(r"^(\d+) passed, (\d+) failed", re.MULTILINE)
+LAST = re.compile(r"^(\d+) passed, (\d+) failed$", re.MULTILINE)  # the last line of a check
 SKIPPED = re.compile(r"^(?:check: )?(skipped: .+|no C compiler: .+)$", re.MULTILINE)
 LINES_SHOWN = 30  # of what a part that failed has written
 
@@ -31,6 +32,7 @@ class Part:
     needs: tuple[str, ...] = ()  # parts that must have passed before
     seconds: int = 600  # it is ended after
     counts: bool = True
+    count: re.Pattern[str] = LAST  # the last line of this form has the count
     processors: int = 1
     environment: dict[str, str] = field(default_factory=dict)
     then: Callable[[str], None] | None = None  # is told what it wrote, if it passed
@@ -60,8 +62,15 @@ class _Running:
         self.log = log
         self.begun = time.monotonic()
         with log.open("wb") as output:
-            how = {"cwd": part.folder, "stdin": subprocess.DEVNULL, "stdout": output, "stderr": subprocess.STDOUT, "start_new_session": True}
-            self.child = subprocess.Popen(part.command, env={**os.environ, **part.environment}, **how)  # type: ignore[call-overload]
+            self.child = subprocess.Popen(
+                part.command,
+                cwd=part.folder,
+                env={**os.environ, **part.environment},
+                stdin=subprocess.DEVNULL,
+                stdout=output,
+                stderr=subprocess.STDOUT,
+                start_new_session=True,
+            )
 
     def seconds(self) -> float:
         return time.monotonic() - self.begun
@@ -83,9 +92,9 @@ class _Running:
 
 def judged(part: Part, status: int | None, said: str, seconds: float) -> Ended:
     """What a part came to by its status, none if it did not end in time, and by its last line."""
-    lines = said.rstrip("\n").split("\n")
-    found = COUNT.match(lines[-1])
-    passed, failed = (int(found[1]), int(found[2])) if found and part.counts else (0, 0)
+    last = said if part.count != LAST else said.rstrip("\n").rpartition("\n")[2]
+    found = part.count.findall(last) if part.counts else []
+    passed, failed = map(int, found[-1]) if found else (0, 0)
     if status is None:
         why = f"no end in {part.seconds} seconds"
     elif status < 0:
@@ -98,7 +107,14 @@ def judged(part: Part, status: int | None, said: str, seconds: float) -> Ended:
         why = ""
     if not part.counts:
         return Ended(part, int(not why), int(bool(why)), seconds, why, said)
-    return Ended(part, passed, max(failed, int(bool(why))), seconds, why or f"{failed} failed" * bool(failed), said)
+    return Ended(
+        part,
+        passed,
+        max(failed, int(bool(why))),
+        seconds,
+        why or f"{failed} failed" * bool(failed),
+        said,
+    )
 
 
 def not_begun(part: Part, why: str) -> Ended:
@@ -143,7 +159,10 @@ class Work:
     def _note(self, ended: Ended) -> None:
         self.ended.append(ended)
         count = f"{ended.passed} passed, {ended.failed} failed"
-        self.tell(f"{ended.part.name}: {count}, {ended.seconds:.0f} s" + f" ({ended.why})" * bool(ended.why))
+        self.tell(
+            f"{ended.part.name}: {count}, {ended.seconds:.0f} s"
+            + f" ({ended.why})" * bool(ended.why)
+        )
         if ended.why:
             for line in ended.said.splitlines()[-LINES_SHOWN:]:
                 self.tell(f"    {line}")
@@ -167,7 +186,8 @@ class Work:
     def _start(self, part: Part) -> None:
         try:
             with uninterrupted():
-                self.running.append(_Running(part, self.folder / f"{len(self.ended) + len(self.running)}-{part.name.replace('/', '_').replace(' ', '_')}"))
+                number = len(self.ended) + len(self.running)
+                self.running.append(_Running(part, self.folder / f"{number}.log"))
         except OSError as error:
             self._note(not_begun(part, f"{part.command[0]}: {error.strerror}"))
 
@@ -175,7 +195,8 @@ class Work:
         if time.monotonic() - self._told >= EVERY:
             self._told = time.monotonic()
             works = ", ".join(f"{each.part.name} ({each.seconds():.0f} s)" for each in self.running)
-            self.tell(f"at work: {works}; {len(self.ended)} of {len(self.ended) + len(self.running) + len(self.waiting)} parts are done")
+            done, all_parts = len(self.ended), [*self.ended, *self.running, *self.waiting]
+            self.tell(f"at work: {works}; {done} of {len(all_parts)} parts are done")
 
 
 def skipped_in(ended: Iterable[Ended]) -> list[str]:

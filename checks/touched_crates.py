@@ -12,7 +12,9 @@ from here import ROOT
 from parts.command import Fault
 from proof_costs import EDITS, PROOF, TESTS, Job
 
-FUNCTION = re.compile(r"(\s*)(?:pub(?:\([a-z]+\))? )?(?:const )?(?:unsafe )?(?:extern \"C\" )?fn \w+")
+FUNCTION = re.compile(
+    r"(\s*)(?:pub(?:\([a-z]+\))? )?(?:const )?(?:unsafe )?(?:extern \"C\" )?fn \w+"
+)
 IN_CRATE = re.compile(r"crates/(\w+)/(\w[\w-]*)/(.+)")
 BODY, CONTRACT, EDIT = "body", "contract", "edit"
 NOTHING = ""
@@ -22,7 +24,9 @@ NOTHING = ""
 class Touched:
     """Crates by what was changed of them."""
 
-    contracts: set[str] = field(default_factory=set)  # what others see, or may see: those above are proved again too
+    contracts: set[str] = field(
+        default_factory=set
+    )  # what others see, or may see: those above are proved again too
     bodies: set[str] = field(default_factory=set)
     edits: set[str] = field(default_factory=set)
 
@@ -32,7 +36,9 @@ class Touched:
 
 
 def git(*words: str) -> str:
-    done = subprocess.run(["git", *words], cwd=ROOT, capture_output=True, text=True, errors="surrogateescape")
+    done = subprocess.run(
+        ["git", *words], cwd=ROOT, capture_output=True, text=True, errors="surrogateescape"
+    )
     if done.returncode:
         raise Fault(done.stderr.strip().partition("\n")[0] or f"git {words[0]} failed")
     return done.stdout
@@ -47,7 +53,9 @@ def changed_files(since: str) -> list[str]:
 
 def before(since: str, name: str) -> str:
     """A file in a revision; empty if it has none."""
-    return git("show", f"{since}:{name}") if git("ls-tree", "--name-only", since, "--", name) else ""
+    return (
+        git("show", f"{since}:{name}") if git("ls-tree", "--name-only", since, "--", name) else ""
+    )
 
 
 def now(name: str) -> str:
@@ -56,9 +64,12 @@ def now(name: str) -> str:
 
 
 def without_bodies(text: str) -> list[str]:
-    """The lines of a file of code as rt fmt lays it out, without the bodies of functions and without comments."""
+    """The lines of a file of code as rt fmt lays it out, without the bodies of functions and
+    without comments."""
     kept: list[str] = []
-    indent: str | None = None  # of the function whose signature and clauses, or whose body, stand here
+    indent: str | None = (
+        None  # of the function whose signature and clauses, or whose body, stand here
+    )
     in_body = False
     for line in text.splitlines():
         if in_body:
@@ -76,8 +87,14 @@ def without_bodies(text: str) -> list[str]:
 
 
 def begins_body(line: str, indent: str) -> bool:
-    """Whether the body of a function with this indent begins at the end of a line: of its own, of a signature of one line, or of the last of several."""
-    return line == f"{indent}{{" or (line.endswith(" {") and (bool(FUNCTION.match(line)) or line.startswith(f"{indent}) ") or line == f"{indent}) {{"))
+    """Whether the body of a function with this indent begins at the end of a line: of its own,
+    of a signature of one line, or of the last of several."""
+    return line == f"{indent}{{" or (
+        line.endswith(" {")
+        and (
+            bool(FUNCTION.match(line)) or line.startswith(f"{indent}) ") or line == f"{indent}) {{"
+        )
+    )
 
 
 def kind_of(name: str, since: str, listed: set[str]) -> tuple[str, str]:
@@ -93,13 +110,20 @@ def kind_of(name: str, since: str, listed: set[str]) -> tuple[str, str]:
     if part == "proofs":
         return crate, BODY
     if part == "src":
-        return crate, BODY if without_bodies(before(since, name)) == without_bodies(now(name)) else CONTRACT
+        return (
+            crate,
+            BODY if without_bodies(before(since, name)) == without_bodies(now(name)) else CONTRACT,
+        )
     return NOTHING, NOTHING
 
 
 def lines_of(text: str) -> dict[str, str]:
     """The lines of crates.txt by their crates."""
-    return {line.partition(":")[0].split()[0]: line for line in text.splitlines() if line.partition(":")[0].strip() and not line.startswith("#")}
+    return {
+        line.partition(":")[0].split()[0]: line
+        for line in text.splitlines()
+        if line.partition(":")[0].strip() and not line.startswith("#")
+    }
 
 
 def touched(since: str) -> Touched:
@@ -121,7 +145,9 @@ def touched(since: str) -> Touched:
 def above(crates: set[str], cited: dict[str, list[str]]) -> set[str]:
     """The crates that use these, directly or by others."""
     found = set(crates)
-    while more := {name for name, uses in cited.items() if name not in found and found.intersection(uses)}:
+    while more := {
+        name for name, uses in cited.items() if name not in found and found.intersection(uses)
+    }:
         found |= more
     return found - crates
 
@@ -131,12 +157,15 @@ def seconds_of(crate: str, costs: dict[Job, float]) -> float:
 
 
 def longest(crates: set[str], cited: dict[str, list[str]], costs: dict[Job, float]) -> float:
-    """The seconds of the chain that takes longest: a crate waits for the proofs of those below it."""
+    """The seconds of the chain that takes longest: a crate waits for the proofs of those below
+    it."""
     ended: dict[str, float] = {}
 
     def end_of(crate: str) -> float:
         if crate not in ended:
-            ended[crate] = max((end_of(name) for name in cited.get(crate, []) if name in crates), default=0) + costs.get((crate, PROOF), 0)
+            ended[crate] = max(
+                (end_of(name) for name in cited.get(crate, []) if name in crates), default=0
+            ) + costs.get((crate, PROOF), 0)
         return ended[crate]
 
     return max((end_of(crate) + costs.get((crate, TESTS), 0) for crate in crates), default=0)
@@ -151,7 +180,9 @@ class Time:
     unknown: tuple[str, ...]
 
 
-def time_of(crates: set[str], cited: dict[str, list[str]], costs: dict[Job, float], processors: int) -> Time:
+def time_of(
+    crates: set[str], cited: dict[str, list[str]], costs: dict[Job, float], processors: int
+) -> Time:
     total = sum(seconds_of(crate, costs) for crate in crates)
     unknown = tuple(sorted(crate for crate in crates if (crate, PROOF) not in costs))
     return Time(total, max(total / processors, longest(crates, cited, costs)), unknown)
@@ -162,4 +193,7 @@ def edits_of(crates: set[str], costs: dict[Job, float]) -> float:
 
 
 def has_tests(crate: str) -> bool:
-    return any("#[test]" in path.read_text(encoding="utf-8") for path in Path(ROOT, "crates", crate, "src").rglob("*.rt"))
+    return any(
+        "#[test]" in path.read_text(encoding="utf-8")
+        for path in Path(ROOT, "crates", crate, "src").rglob("*.rt")
+    )
