@@ -74,7 +74,13 @@ void code_checks_beginning(code *c);
 
 /* The machine is asked. */
 void code_fetches(code *c);
-typedef struct { IRExpr *address, *guard; UInt size; Bool loads, stores; } access;
+typedef struct {
+    IRExpr *address, *guard;
+    UInt size;
+    Bool loads, stores;
+    IRExpr *mask; /* a bit for each element that is accessed, or NULL */
+    UInt width;   /* of an element */
+} access;
 void code_accesses(code *c, const access *a);
 void code_branches(code *c, IRExpr *taken); /* a conditional branch, behind its straight line */
 

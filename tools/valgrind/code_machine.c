@@ -56,8 +56,23 @@ static IRExpr *machine_differs(code *c, const access *a) {
     return code_or(c, line_differs, page_differs);
 }
 
+/* An access of which a mask chooses the elements. */
+static void asks_masked(code *c, const access *a) {
+    const access each = {.size = a->width, .loads = a->loads, .stores = a->stores};
+    if (!words.has_model || (!current->l1d.tags && !current->dtlb.tags && !notes_hits(&each))) return;
+    site *s = new_site(c, a->width, a->loads ? BY_LOAD : BY_STORE);
+    s->notes_hits = notes_hits(&each);
+    code_call(c, NULL, "model_sees_masked", model_sees_masked, mkIRExprVec_4(code_word((Addr)s), a->address, a->mask, code_word(a->width)));
+    code_asks_machine(c);
+}
+
 /* An access on the tape, with the machine behind it. If it is guarded each is called by itself. */
 void code_accesses(code *c, const access *a) {
+    if (a->mask) {
+        code_notes(c, a->loads ? KL_LOADS : KL_STORES, c->pc, 1, IN_ACCESS, NULL);
+        asks_masked(c, a);
+        return;
+    }
     Bool is_asked = words.has_model && (current->l1d.tags || current->dtlb.tags || notes_hits(a));
     if (!is_asked && !words.has_tape) return;
     site *s = new_site(c, a->size, a->loads ? BY_LOAD : BY_STORE);

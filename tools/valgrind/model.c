@@ -82,6 +82,13 @@ void model_sees_access(site *s, Addr address) {
     if (words.has_model) meet(c, s, address, &c->dtlb, &c->l1d);
 }
 
+void model_sees_masked(site *s, Addr address, ULong mask, ULong width) {
+    if (!mask) return;
+    UInt first = (UInt)__builtin_ctzll(mask), last = 63 - (UInt)__builtin_clzll(mask);
+    s->size = (UShort)((last - first + 1) * width);
+    meet(current, s, address + first * width, &current->dtlb, &current->l1d);
+}
+
 void model_sees_fetch(site *s) { meet(current, s, s->pc, &current->itlb, &current->l1i); }
 
 void model_sees_branch(site *s, ULong taken, ULong errs) {
