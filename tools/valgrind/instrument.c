@@ -14,6 +14,7 @@
 #include "words.h"
 
 Addr library_first, library_end, counting_from;
+Bool has_library;
 
 static UInt kind_of_class(const code *c) { return c->class & CLASS_BITS; }
 static Bool is_conditional(const code *c) { return c->is_counted && kind_of_class(c) == CONDITIONAL; }
@@ -31,7 +32,7 @@ static void branch_ends(code *c, Bool is_known, Addr next) {
     }
     if (!is_conditional(c) || c->is_branch_seen) return;
     Bool taken = is_known && next != c->pc + c->size; /* what it does was known when it was translated */
-    code_happens(c, taken ? KL_TAKEN : KL_NOT_TAKEN, 1);
+    if (!code_counts_outcomes()) code_happens(c, taken ? KL_TAKEN : KL_NOT_TAKEN, 1);
     code_branches(c, IRExpr_Const(IRConst_U1(taken)));
     c->line = c->number + 1;
 }
@@ -84,7 +85,9 @@ static void instruction_begins(code *c, Addr pc, UInt size) {
 /* -- exits -- */
 
 /* Whether a branch is counted by its guard. If not it is counted as if it left, and put right behind the exit. */
-static Bool is_by_guard(void) { return words.has_model || words.has_tape || is_armed[KL_TAKEN] || is_armed[KL_NOT_TAKEN]; }
+static Bool is_by_guard(void) {
+    return has_predictor() || words.has_tape || is_armed[KL_TAKEN] || is_armed[KL_NOT_TAKEN];
+}
 
 static void branch_leaves(code *c, IRExpr *guard, Bool leaves_taken) {
     c->is_branch_seen = True;
@@ -93,8 +96,10 @@ static void branch_leaves(code *c, IRExpr *guard, Bool leaves_taken) {
         return;
     }
     IRExpr *not_guard = code_make(c, Ity_I1, IRExpr_Unop(Iop_Not1, guard)), *taken = leaves_taken ? guard : not_guard;
-    code_may_happen(c, KL_TAKEN, taken);
-    code_may_happen(c, KL_NOT_TAKEN, leaves_taken ? not_guard : guard);
+    if (!code_counts_outcomes()) {
+        code_may_happen(c, KL_TAKEN, taken);
+        code_may_happen(c, KL_NOT_TAKEN, leaves_taken ? not_guard : guard);
+    }
     code_branches(c, taken);
     c->line = c->number + 1;
 }
