@@ -8,7 +8,7 @@ import struct
 import subprocess
 from dataclasses import dataclass
 from pathlib import Path
-from typing import NoReturn
+from typing import Iterator, Mapping, NoReturn
 
 from parts import valgrind
 from parts.codes import codes_of
@@ -18,6 +18,7 @@ from parts.machine import Machine
 FOLDER = Path(__file__).resolve().parent.parent.parent
 EXAMPLES = FOLDER / "examples"
 INSTALLED_LIBRARY = FOLDER / "library"  # a link of bin/install
+BUILD = FOLDER / "c/build"
 OWN_FUNCTION = b"kistalub_go"  # PAPI's library has none of this name
 PAPI = "libpapi.so"
 MOST_MHZ = 1_000_000
@@ -47,7 +48,7 @@ def count(counting: Counting) -> NoReturn:
     program = shutil.which(counting.program)
     if program is None:
         raise Fault(f"{counting.program}: no such program")
-    environment = valgrind.environment([program, *counting.arguments], _changes(counting))
+    environment = valgrind.environment([program, *counting.arguments], _changes(counting, program))
     for name in NO_STREAM:
         environment.pop(name, None)
     _check_library(program, environment)
@@ -72,10 +73,21 @@ def named_files(unit: str | None, presets: str | None, cpu: str | None) -> dict[
     return {name: given[name] or os.environ.get(name) or usual[name] for name in usual}
 
 
-def _changes(counting: Counting) -> dict[str, str]:
+def _library(counting: Counting, program: str) -> str | None:
+    """The folder of the library: what is named, that of bin/install, or for a program that is linked with PAPI one that is built here."""
+    if counting.library or INSTALLED_LIBRARY.is_dir():
+        return counting.library or str(INSTALLED_LIBRARY)
+    if not BUILD.is_file() or not any(_is_other(path) for path in _papi_of(program, os.environ)):
+        return None
+    from parts.unproved.built_library import built_library  # which bin/install leaves out, as it does c/build
+
+    return str(built_library())
+
+
+def _changes(counting: Counting, program: str) -> dict[str, str]:
     """What the library is told. Names are found before the program runs, so that none is looked for while it counts."""
     changes = {**named_files(counting.unit, counting.presets, counting.cpu), "KISTALUB_CACHES": counting.machine.caches(), "LD_BIND_NOW": "1"}
-    library = counting.library or (INSTALLED_LIBRARY if INSTALLED_LIBRARY.is_dir() else None)
+    library = _library(counting, program)
     if library:
         paths = [str(Path(library).resolve()), *filter(None, [os.environ.get("LD_LIBRARY_PATH")])]
         changes["LD_LIBRARY_PATH"] = ":".join(paths)
@@ -84,16 +96,27 @@ def _changes(counting: Counting) -> dict[str, str]:
     return changes
 
 
-def _check_library(program: str, environment: dict[str, str]) -> None:
+def _check_library(program: str, environment: Mapping[str, str]) -> None:
     """A program that is linked with PAPI finds our library there, and no other."""
+    for path in _papi_of(program, environment):
+        if path and _is_other(path):
+            raise Fault(f"{program} takes PAPI from {path}, which is not that of bin/install (--library names its folder)")
+
+
+def _papi_of(program: str, environment: Mapping[str, str]) -> Iterator[str]:
+    """Where a program that is linked with PAPI finds it: the file, or nothing if there is none."""
     if not _has_loader(program):
         return
     listed = subprocess.run([program], env={**environment, LISTS_LIBRARIES: "1"}, stdin=subprocess.DEVNULL, capture_output=True, text=True, errors="replace")
     for line in listed.stdout.splitlines():
         name, _, rest = line.strip().partition(" => ")
-        path = rest.rpartition(" (")[0]
-        if name.startswith(PAPI) and path and OWN_FUNCTION not in Path(path).read_bytes():
-            raise Fault(f"{program} takes PAPI from {path}, which is not that of bin/install (--library names its folder)")
+        if name.startswith(PAPI):
+            yield rest.rpartition(" (")[0]
+
+
+def _is_other(path: str) -> bool:
+    """Whether this is not our library."""
+    return not path or OWN_FUNCTION not in Path(path).read_bytes()
 
 
 def _has_loader(program: str) -> bool:
