@@ -32,8 +32,8 @@ PLAUSIBLE: dict[str, list[tuple[str, int, int]]] = {
     "papi_clockres": [(r"^PAPI_get_real_cyc: min (\d+)", 1, 100), (r"^PAPI_get_virt_cyc: min (\d+)", 1, 100)],
     "papi_multiplex_cost": [(r"^ +\d+\t +(\d+)\t", 1, 10_000)],
 }
-# What is counted of a program that makes no call of PAPI.
-CALL_LESS = {"papi_version": "made no call of PAPI by the library of bin/install: nothing was counted"}
+# What is said of a program that makes no call of PAPI.
+CALL_LESS = {"papi_version": " Counts of "}
 
 
 def why_of(name: str, ran: Ran, text: str) -> str:

@@ -24,7 +24,7 @@ GROUPS = {
     ),
     "program": ("papi_tools", "papi", "papi_c"),
 }
-TESTS = ("crate_tests", "tool_tests", "worked_rows")  # these are not drawn
+TESTS = ("crate_tests", "tool_tests")  # these are not drawn
 LIGHT = ("#e8eaed", "#d6e6f5", "#d9efd8", "#f6e3c5", "#e6dcf3", "#d3eeea", "#f6d7d4")
 DARK = ("#3a3f47", "#1f3f5c", "#23482a", "#5a4420", "#413060", "#1d4a45", "#5e2c29")
 
@@ -56,6 +56,7 @@ def draw_crates(listed: dict[str, list[str]]) -> str:
     lines = [
         f'<svg xmlns="http://www.w3.org/2000/svg" width="{width}" height="{height}" viewBox="0 0 {width} {height}" role="img">',
         "<title>The crates of Kistalub</title>",
+        "<!-- tools/draw_crates makes this file of crates.txt. -->",
         f"<style>{_style()}</style>",
         f'<rect class="page" width="{width}" height="{height}" rx="6"/>',
         f'<text class="title" x="{MARGIN}" y="{MARGIN + 12}">The crates, each above all that it stands on</text>',

@@ -14,9 +14,10 @@ FIXED_ALONE: dict[Code, int] = {(0x00, 0x03): 2}
 class EventCounters:
     """Each source of counters takes some away. Where none speaks of a code, each programmable counter is allowed."""
 
-    def __init__(self, programmable: int, fixed: int, files: CounterTable | None, constraints: ConstraintTable | None):
+    def __init__(self, programmable: int, fixed: int, files: CounterTable | None, constraints: ConstraintTable | None, held: frozenset[int] = frozenset()):
+        """`held` are fixed counters that are not there."""
         self.programmable = programmable
-        self.fixed = fixed
+        self.fixed = frozenset(range(fixed)) - held
         self.files = files
         self.constraints = constraints
         self.known = 0
@@ -33,7 +34,7 @@ class EventCounters:
         programmable = ruled.programmable & named.programmable if named else ruled.programmable
         if self.constraints and named and named.programmable and not programmable | fixed:
             programmable = ruled.programmable  # Linux goes by its table alone
-        return Places(programmable & everywhere, frozenset(number for number in fixed if number < self.fixed))
+        return Places(programmable & everywhere, fixed & self.fixed)
 
     def _ruled(self, code: Code, modifiers: Fixed) -> Places | None:
         """What the kernel's table says, or else Intel's manual of the architectural events."""
@@ -41,7 +42,7 @@ class EventCounters:
             return self.constraints.places(code, modifiers, self.programmable)
         if modifiers != Fixed():
             return None
-        if code in FIXED_ALONE and FIXED_ALONE[code] < self.fixed:
+        if code in FIXED_ALONE and FIXED_ALONE[code] in self.fixed:
             return Places(frozenset(), frozenset({FIXED_ALONE[code]}))
         if code in FIXED_BESIDE:
             return Places(frozenset(range(self.programmable)), frozenset({FIXED_BESIDE[code]}))

@@ -26,6 +26,10 @@ class Shape:
     def word(self) -> str:
         return f"{self.lines},{self.ways},{self.line}"
 
+    def option(self, name: str) -> str:
+        """As the option of its name takes it."""
+        return f"{self.lines * (1 if name in BUFFERS else self.line)},{self.ways},{self.line}"
+
 
 @dataclass(frozen=True)
 class Machine:
@@ -41,7 +45,7 @@ class Machine:
     def caches(self) -> str:
         """As the library for C takes them: KISTALUB_CACHES."""
         known = [(name, shape) for name, shape in self.shapes.items() if shape]
-        return " ".join(f"{name}={shape.lines * (1 if name in BUFFERS else shape.line)},{shape.ways},{shape.line}" for name, shape in known)
+        return " ".join(f"{name}={shape.option(name)}" for name, shape in known)
 
     def tool_words(self) -> list[str]:
         """As our tool of Valgrind takes them."""

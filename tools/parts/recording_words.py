@@ -7,6 +7,7 @@ from typing import Any, Callable
 
 from parts.command import Fault
 from parts.machine import BUFFERS, CACHES, COSTS, MACHINES, Machine, read_buffer, read_cache, read_costs, read_predictor
+from parts.whole_words import add_whole
 
 MOST_WINDOW = 1 << 40
 NAMES = {"l1d": "first-level data cache", "l1i": "first-level instruction cache", "l2": "second-level cache", "l3": "third-level cache",
@@ -52,14 +53,18 @@ def record_words(name: str) -> argparse.ArgumentParser:
 def count_words(name: str) -> argparse.ArgumentParser:
     parser = argparse.ArgumentParser(
         prog=name,
-        description="Runs a program that makes PAPI's calls under a tool of Valgrind, which counts what it does: each call gets the counts of its own thread. What it "
-        "prints and its status are its own. The program is linked with the library of bin/install, or finds its libpapi.so.7.0 in place of PAPI's.",
+        description="Runs a program under a tool of Valgrind, which counts what it does, from its "
+        "entry to its end, and prints a table of it. If the program makes PAPI's calls, each call "
+        "gets the counts of its own thread in place of that: it is linked with the library of "
+        "bin/install, or finds its libpapi.so.7.0 in place of PAPI's. What the program prints and "
+        "its status are its own.",
     )
     parser.add_argument("--library", metavar="FOLDER", help="where libpapi.so.7.0 of bin/install is; a program that is linked with PAPI takes it from there. "
                         "A tool that is installed knows its own")
     parser.add_argument("--unit", metavar="UNIT", help="the unit file (examples/recorded.unit, or KISTALUB_UNIT)")
     parser.add_argument("--presets", metavar="PRESETS", help="the preset file (examples/recorded.presets, or KISTALUB_PRESETS); goes with --cpu")
     parser.add_argument("--cpu", metavar="CPU", help="the processor of the preset file (recorded, or KISTALUB_CPU)")
+    add_whole(parser)
     lines = parser.add_argument_group("the stream")
     lines.add_argument("--keep", metavar="STREAM", help="write what happens while a set of a thread counts to this file, with the number of the thread for %%t and the "
                        "rank of a process of MPI for %%r; without %%t that of the first thread alone")

@@ -31,6 +31,7 @@ def write_all(maker: str, texts: dict[str, str], *, check: bool) -> None:
     if old and check:
         raise Fault(f"out of date: {', '.join(old)} ({maker} writes them)")
     for name in old:
+        (ROOT / name).parent.mkdir(parents=True, exist_ok=True)
         (ROOT / name).write_text(texts[name], encoding="utf-8")
         if texts[name].startswith("#!"):
             (ROOT / name).chmod(0o755)

@@ -74,13 +74,14 @@ class Unit:
     pmu: str
     width: int
     programmable: int
-    fixed: int
+    fixed: frozenset[int]
     events: tuple[Event, ...]
 
     def rows(self) -> list[str]:
+        """An event stands on the first counter that is free, and Linux takes fixed ones before others."""
         rows = [f"COMPONENT,{self.component},{self.pmu}"]
+        rows += [f"COUNTER,F{number},{self.width},F" for number in sorted(self.fixed)]
         rows += [f"COUNTER,P{number},{self.width},P" for number in range(self.programmable)]
-        rows += [f"COUNTER,F{number},{self.width},F" for number in range(self.fixed)]
         return rows + [row for event in self.events for row in event.rows()]
 
 

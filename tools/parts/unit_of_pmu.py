@@ -16,9 +16,10 @@ from parts.command import Fault, Progress
 from parts.event_counters import EventCounters, names_of, union
 from parts.left_out import SAYABLE_MODIFIERS, Account, LeftOut
 from parts.libpfm4 import Attribute, Event, Libpfm4, Pmu, Refused
-from parts.linux_source import ConstraintTable
+from parts.linux_source import Sources
 from parts.perf_events import Code, CounterTable, Places
 from parts.preset_umasks import Umasks
+from parts.shared_registers import Kept, Need, keep
 from parts.unit_file import MOST_COUNTERS, MOST_EVENTS, MOST_UMASKS, NOTHING_FIXED, Fixed
 
 __all__ = ["SAYABLE_MODIFIERS", "Account", "Converter"]
@@ -29,6 +30,7 @@ EDGE = 1 << 18
 INVERT = 1 << 23
 ANY_THREAD = 1 << 21  # of the core, not this one alone
 AMOUNT_PLACE = 24
+CORE_CYCLES = 1  # the fixed counter on which the kernel's watchdog counts
 SAYABLE_BITS = 0xFF000000 | INVERT | EDGE | 0xFFFF
 
 # The events that all of Intel's cores have (its manual, volume 3, architectural performance events), by the names of libpfm4's table ix86arch. PAPI finds them beside the
@@ -75,22 +77,36 @@ class CodedUmask:
         return self.coded.code[0]
 
 
+@dataclass(frozen=True)
+class Choice:
+    """What is asked of a unit, beside its processor."""
+
+    width: int = 48
+    most: int | None = None  # programmable counters that are taken
+    wanted: Umasks = frozenset()  # umasks that stay before others where an event has too many
+    threads: bool = True  # a core has two
+    watchdog: bool = False  # the kernel's holds a counter
+
+
 class Converter:
     """Makes one unit, and keeps the account of what it left out."""
 
-    def __init__(self, library: Libpfm4, pmu: Pmu, table: CounterTable | None = None, width: int = 48, most: int | None = None,
-                 constraints: ConstraintTable | None = None, wanted: Umasks = frozenset()):
-        """`most` is how many programmable counters are taken, if it is given. `wanted` are umasks that stay before others where an event has too many."""
+    def __init__(self, library: Libpfm4, pmu: Pmu, table: CounterTable | None = None, kernel: Sources | None = None, choice: Choice = Choice(), there: int = 0):
+        """`table` says on which counters events may stand, and `there` is how many programmable ones there are, if the PMU of libpfm4 does not say it right."""
         self.library = library
         self.pmu = pmu
         self.table = table
-        self.constraints = constraints
-        self.wanted = wanted
-        self.width = width
-        self.there = (table.programmable() if table else 0) or pmu.programmable
-        self.programmable = self.there if most is None else min(most, self.there)
+        self.kernel = kernel
+        self.constraints = kernel.constraints if kernel else None
+        self.choice = choice
+        self.there = there or (table.programmable() if table else 0) or pmu.programmable
+        self.held = frozenset({CORE_CYCLES}) if choice.watchdog and pmu.fixed > CORE_CYCLES else frozenset()
+        most = self.there - (choice.watchdog and not self.held)
+        self.programmable = most if choice.most is None else min(choice.most, most)
+        self.fixed = frozenset(range(pmu.fixed)) - self.held
         self.account = Account()
-        self.counters = EventCounters(self.programmable, pmu.fixed, table, constraints)
+        self.counters = EventCounters(self.programmable, pmu.fixed, table, self.constraints, self.held)
+        self.kept: tuple[Kept, ...] = ()
         self.architectural: set[str] = set()
         if self.programmable + pmu.fixed > MOST_COUNTERS:
             raise Fault(f"{pmu.name} has {self.programmable + pmu.fixed} counters, and a unit at most {MOST_COUNTERS}")
@@ -99,17 +115,21 @@ class Converter:
         """What the unit takes for granted of the counters, as a sentence."""
         few = f"the first {self.programmable} of {self.there}" if self.programmable < self.there else f"all {self.programmable}"
         if self.constraints:
-            where = "on the counters that the event files and the kernel's table allow"
+            where = "on the counters that the kernel's table" + (" and the event files allow" if self.table else " allows")
         elif self.table:
             where = "on the counters that the event files name"
+        elif self.kernel:
+            where = "on each programmable counter, as Linux has it"
         else:
             where = "on each programmable counter, since no event files that name counters were given (--events, --linux)"
-        shared = "" if self.table or self.programmable < self.there else "; hyperthreading may leave a thread fewer (--counters 4)"
-        return f"assumed: an event may stand {where}; {few} programmable counters are there{shared}"
+        shared = "" if self.table or self.kernel or self.programmable < self.there else "; hyperthreading may leave a thread fewer (--counters 4)"
+        held = "; the kernel's watchdog holds a counter" if self.choice.watchdog else ""
+        return f"assumed: an event may stand {where}; {few} programmable counters are there{shared}{held}"
 
     def unit(self) -> unit_file.Unit:
         events: list[unit_file.Event] = []
         progress = Progress(self.pmu.name, self.pmu.events)
+        self._keep_to_registers()
         for number, event in enumerate(self.source_events()):
             progress.show(number)
             try:
@@ -124,7 +144,7 @@ class Converter:
         self.account.codes, self.account.counters_known = self.counters.codes, self.counters.known
         if not events:
             raise Fault(f"no event of {self.pmu.name} has a code of an event select register")
-        return unit_file.Unit(COMPONENT, self.pmu.name, self.width, self.programmable, self.pmu.fixed, tuple(events))
+        return unit_file.Unit(COMPONENT, self.pmu.name, self.choice.width, self.programmable, self.fixed, tuple(events))
 
     def source_events(self) -> Iterator[Event]:
         """The events of the PMU's table, and those of the architecture that it does not have itself."""
@@ -152,7 +172,7 @@ class Converter:
         coded = self._coded_umasks(event)
         default = self._default(event, coded)
         coded = self._of_one_select(event, coded, default)
-        places = {each: self.counters.places(each.coded.code, each.coded.fixed) for each in coded}
+        places = {each: self._places(f"{event.name}:{each.attribute.name}", each.coded) for each in coded}
         coded = self._keep(event, coded, [each for each in coded if places[each] != Places(frozenset(), frozenset())], "the unit does not have its counters")
         if not coded:
             raise LeftOut("the unit does not have its counters")
@@ -180,12 +200,46 @@ class Converter:
             if self._code(f"{event.name}:{name}") != coded:
                 raise LeftOut("the code has more than 8 bits and no umask")
             umasks = (unit_file.Umask(name, bits, True, True, "The umask of the event's code", (), coded.fixed),)
-        places = self.counters.places(coded.code, coded.fixed)
+        places = self._places(event.name, coded)
         if places == Places(frozenset(), frozenset()):
             raise LeftOut("the unit does not have its counters")
         if len(coded.codes) > 1:
             self.account.take_half(event.name)
         return unit_file.Event(event.name, select, names_of(places), event.description, umasks)
+
+    # ---- counters
+
+    def _keep_to_registers(self) -> None:
+        """Finds counters for the events that share registers."""
+        if not self.kernel or not self.kernel.registers:
+            return
+        needs: list[Need] = []
+        for event in self.source_events():
+            for name in [f"{event.name}:{umask.name}" for umask in event.umasks()] or [event.name]:
+                try:
+                    coded = self._code(name)
+                except LeftOut:
+                    continue
+                places = self.counters.places(coded.code, coded.fixed)
+                if places.programmable:
+                    needs.append(Need(coded.special & 0xFFFF, coded.codes[1] if len(coded.codes) > 1 else None, places))
+        self.kept = keep(self.kernel.registers, needs, self.programmable)
+        self.counters.known = self.counters.codes = 0
+
+    def _places(self, name: str, coded: Coded) -> Places:
+        """The counters of a name. What a unit's rows cannot say of them is noted."""
+        places, code = self.counters.places(coded.code, coded.fixed), coded.special & 0xFFFF
+        for kept in self.kept:
+            if code in kept.codes:
+                self.account.keep(name, kept.counters)
+                places = kept.places(code, places)
+        if self.kernel and self.constraints and self.choice.threads and self.constraints.is_exclusive(coded.code, coded.fixed):
+            self.account.exclusive.append(name)
+        if self.kernel and coded.code[0] in self.kernel.pairs:
+            self.account.pairs.append(name)
+            even = frozenset(number for number in places.programmable if number % 2 == 0 and number + 1 < self.programmable)
+            places = Places(even, places.fixed)
+        return places
 
     # ---- codes
 
@@ -218,7 +272,11 @@ class Converter:
         return coded
 
     def _default(self, event: Event, coded: list[CodedUmask]) -> CodedUmask | None:
-        """The umask that the bare name stands for, if it is one of these."""
+        """The umask that the bare name stands for, if it is one of these. There is none if a umask of libpfm4 has a modifier's name, such as E: with a default umask
+        the unit would take EVENT:E for that one with the modifier."""
+        if any(umask.name.lower() in SAYABLE_MODIFIERS for umask in event.umasks()):
+            self.account.leave_out(f"{event.name} (without a umask)", "libpfm4 has a umask of the event with the name of a modifier")
+            return None
         try:
             code = self._code(event.name)
         except LeftOut:
@@ -234,7 +292,7 @@ class Converter:
         """The default and those that are wanted stay. Of the others, second names go first, and then the last ones."""
 
         def rank(umask: CodedUmask) -> tuple[bool, bool, bool]:
-            is_wanted = (event.name.upper(), umask.attribute.name.upper()) in self.wanted
+            is_wanted = (event.name.upper(), umask.attribute.name.upper()) in self.choice.wanted
             return umask != default, not is_wanted, umask.attribute.is_alias
 
         kept = sorted(coded, key=rank)[:MOST_UMASKS]

@@ -21,6 +21,7 @@ NAME = "kistalub"
 HINT = "(apt-get install valgrind)"
 
 STACK_ROOM = 1 << 16
+FOLDER_ROOM = 1 << 10
 POINTER = 8
 PADDING = "KISTALUB_PADDING"
 LEAST_PADDING = 16  # the tool takes its first bytes in place of the system's random ones
@@ -84,10 +85,16 @@ def command(words: list[str], program: str, arguments: list[str]) -> list[str]:
     return [str(tool()), f"--tool={NAME}", "--quiet", "--vgdb=no", "--fair-sched=try", *words, "--", program, *arguments]
 
 
+def of_one_length(folder: str) -> str:
+    """A folder's path with as many slashes behind it as make its length a multiple of 1,024. The
+    system's loader keeps such paths in memory, and what comes behind them would move."""
+    return folder + "/" * (-len(os.fsencode(folder)) % FOLDER_ROOM)
+
+
 def environment(words: list[str], changes: Mapping[str, str]) -> dict[str, str]:
     """This process's environment with these changes, for a program with these words, and what Valgrind's core wants to find there. A variable is as long as it
     takes for the program's stack to begin at the same place whatever else is in the environment: words and variables stand above."""
-    whole = {**os.environ, **changes, "VALGRIND_LIB": str(_own_folder()), "VALGRIND_LAUNCHER": shutil.which("valgrind") or "valgrind"}
+    whole = {**os.environ, **changes, "VALGRIND_LIB": of_one_length(str(_own_folder())), "VALGRIND_LAUNCHER": shutil.which("valgrind") or "valgrind"}
     whole.pop(PADDING, None)
     strings = [os.fsencode(word) for word in words] + [os.fsencode(f"{name}={value}") for name, value in whole.items()]
     size = sum(len(string) + 1 + POINTER for string in strings) + len(PADDING) + 2 + POINTER

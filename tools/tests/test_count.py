@@ -2,6 +2,7 @@
 
 from __future__ import annotations
 
+import json
 import os
 import shutil
 import signal
@@ -321,11 +322,36 @@ class Programs(Counted):
         self.assertLess(abs(instructions - 4_000_000), 80_000)
         self.assertLess(abs(branches - 2_000_000), 40_000)
 
-    def test_a_program_without_calls_is_not_at_fault(self) -> None:
+    def test_a_program_without_calls_is_counted_as_a_whole(self) -> None:
         program = self.compile("int main(void) { puts(\"done\"); return 3; }", f"-L{self.library}", "-Wl,--no-as-needed", "-lpapi")
         done = self.count(program)
         self.assertEqual((done.stdout, done.returncode), ("done\n", 3))
-        self.assertEqual(done.stderr, f"count: {program} made no call of PAPI by the library of bin/install: nothing was counted\n")
+        wanted = rf"^\n Counts of {program}:\n\n +[1-9][\d,]+      PAPI_TOT_INS\n"
+        self.assertRegex(done.stderr, wanted)
+
+    def test_a_whole_count_beside_the_calls(self) -> None:
+        """What the library does is not in it, and the calls get what they get alone."""
+        program, counts = self.compile(self.LOOPS), self.folder / "counts"
+        words = ("--events", "PAPI_BR_TKN,PAPI_TOT_INS", "--json", str(counts), "-o", "/dev/null")
+        done = self.count("--whole", *words, program, "PAPI_BR_TKN")
+        self.assertEqual((done.stdout, done.stderr, done.returncode), ("PAPI_BR_TKN 2000\n", "", 5))
+        total = json.loads(counts.read_text(encoding="utf-8"))["total"]
+        self.assertIn(total["PAPI_BR_TKN"], range(3998, 6000))
+        self.assertIn(total["PAPI_TOT_INS"], range(8000, 20000))
+        done = self.count("--events", "PAPI_TOT_INS", program)
+        said = f"count: {program} makes calls of PAPI: --whole counts it as a whole beside them\n"
+        self.assertEqual((done.stdout, done.stderr, done.returncode), ("", said, 1))
+
+    def test_calls_that_are_only_seen_when_they_are_made(self) -> None:
+        """A stripped program has the library in itself: its first call ends a run whose machine is
+        not whole, and a file is asked for in vain."""
+        program = self.compile(self.LOOPS, "-static", "-s", f"{self.library}/libkistalub.a")
+        had = ", which have had its counts"
+        for words, more in ((("--events", "PAPI_TOT_INS"), ""), (("--csv", "/dev/null"), had)):
+            said = f"makes calls of PAPI{more}: --whole counts it as a whole beside them\n"
+            done = self.count(*words, program, "PAPI_BR_TKN")
+            self.assertEqual(done.stderr, f"count: {program} {said}")
+            self.assertNotEqual(done.returncode, 0)
 
     def test_a_stripped_static_program(self) -> None:
         program = self.compile(self.LOOPS, "-static", "-s", f"{self.library}/libkistalub.a")

@@ -16,7 +16,7 @@ from tests.support import ROOT, InFolder, some
 PARTS = ("bin", "include", "man", "completions", "tools", "VERSION", "examples/recorded.unit", "examples/recorded.presets")
 BUILD = '#!/bin/sh\necho "$$" >"${WAITS:-/dev/null}"\n[ -z "${WAITS-}" ] || sleep 60\necho a >"$1/libkistalub.a"\necho so >"$1/libpapi.so.7.0"\n'
 TOOLS = sorted(path.name for path in (ROOT / "bin").glob("papi_*"))
-USAGE = "usage: install [--program-suffix SUFFIX] PREFIX\n"
+USAGE = "usage: install [--uninstall] [--program-suffix SUFFIX] PREFIX\n"
 PATIENCE = 30  # seconds
 
 
@@ -82,11 +82,11 @@ class Install(InFolder):
             suffixed = re.sub("|".join(TOOLS), lambda found: f"{found[0]}-x", file.read_text())
             self.assertEqual((self.prefix / "share/kistalub/completions" / file.name).read_text(), suffixed)
         self.assertTrue(os.access(self.prefix / "share/kistalub/completions/candidates", os.X_OK))
-        self.assertIn(f"prefix={self.prefix}\n", (self.prefix / "lib/pkgconfig/kistalub.pc").read_text())
+        self.assertIn("prefix=${pcfiledir}/../..\n", (self.prefix / "lib/pkgconfig/kistalub.pc").read_text())
 
     def test_the_scripts_run_the_program(self) -> None:
         self.install(self.prefix)
-        program = self.prefix / "libexec/kistalub/papi"
+        program = self.prefix / "bin/../libexec/kistalub/papi"
         for tool in some(TOOLS):
             def run(*words: str) -> tuple[int, str]:
                 done = subprocess.run([str(self.prefix / "bin" / tool), *words], capture_output=True, text=True, env={**os.environ, "KISTALUB_HINTS": "0"})
@@ -97,6 +97,77 @@ class Install(InFolder):
             self.assertEqual((run("--help"), run()), ((0, usage), (2, usage)))
         full = subprocess.run(["sh", "-c", '"$1" --help >/dev/full', "sh", str(self.prefix / "bin/papi_run")], capture_output=True)
         self.assertEqual(full.returncode, 5)
+
+    def test_the_prefix_can_be_moved(self) -> None:
+        self.install(self.prefix)
+        moved = self.folder / "elsewhere/a b"
+        moved.parent.mkdir()
+        self.prefix.rename(moved)
+        link = self.folder / "papi_run"
+        link.symlink_to(moved / "bin/papi_run")
+        for name in (link, moved / "bin/papi_run"):
+            done = subprocess.run([str(name), "x"], capture_output=True, text=True, env={**os.environ, "KISTALUB_HINTS": "0"})
+            self.assertEqual((done.returncode, done.stdout), (3, f"{moved}/bin/../libexec/kistalub/papi papi_run x\n"))
+        if shutil.which("pkg-config"):
+            for name, place, wanted in (("kistalub", "lib/pkgconfig", "lib"), ("PAPI", "lib/kistalub/lib/pkgconfig", "lib/kistalub"), ("PAPI", "lib/kistalub", "lib/kistalub")):
+                words = ["pkg-config", "--variable=libdir", "kistalub" if name == "kistalub" else "papi"]
+                told = subprocess.run(words, capture_output=True, text=True, env={**os.environ, "PKG_CONFIG_PATH": str(moved / place)}).stdout
+                self.assertEqual(os.path.realpath(told.strip().replace("\\", "")), str(moved / wanted), (name, place))
+        self.assertEqual([name for path in moved.rglob("*") if path.is_file() and str(self.prefix).encode() in path.read_bytes() for name in [path.name]], [])
+
+    def test_whoever_comes_can_read_it(self) -> None:
+        subprocess.run(["sh", "-c", 'umask 077 && exec "$@"', "sh", str(self.tree / "bin/install"), str(self.prefix)], check=True)
+        for path in some(self.prefix.rglob("*")):
+            if not path.is_symlink():
+                wanted = 0o755 if path.is_dir() or os.access(path, os.X_OK) else 0o644
+                self.assertEqual(path.stat().st_mode & 0o777, wanted, path)
+
+    def test_what_runs_keeps_its_files(self) -> None:
+        """Each file is another one after a second time, so that nobody who has the first one open sees it change. A program that runs can be replaced."""
+        shutil.copy(shutil.which("sleep") or "", self.tree / "crates/papi/out/papi")
+        self.install(self.prefix)
+        running = subprocess.Popen([str(self.prefix / "libexec/kistalub/papi"), "60"])
+        try:
+            with open(self.prefix / "lib/kistalub/libpapi.so.7.0", "rb") as library:
+                before = {path: path.stat().st_ino for path in some(self.prefix.rglob("*")) if path.is_file() and not path.is_symlink() and path.name != "files"}
+                self.put("c/build", BUILD.replace("echo so ", "echo other "))
+                done = self.install(self.prefix)
+                self.assertEqual((done.returncode, done.stderr, library.read()), (0, "", b"so\n"))
+            self.assertEqual([str(path) for path, number in before.items() if path.stat().st_ino == number], [])
+            self.assertIsNone(running.poll())
+        finally:
+            running.kill()
+            running.wait()
+        self.assertEqual([path.name for path in self.prefix.iterdir() if path.name.startswith(".")], [])
+
+    def test_what_an_earlier_version_had_goes(self) -> None:
+        self.put("bin/hints/old.py", "")
+        self.install(self.prefix)
+        self.install("--program-suffix=-x", self.prefix)
+        mine = self.prefix / "share/kistalub/mine"
+        mine.write_text("")
+        (self.tree / "bin/hints/old.py").unlink()
+        old = self.prefix / "share/kistalub/hints/old.py"
+        self.install(self.prefix)
+        self.assertTrue(old.exists(), "the install with the suffix has it too")
+        self.install("--program-suffix=-x", self.prefix)
+        self.assertEqual((old.exists(), mine.exists()), (False, True))
+
+    def test_it_is_taken_away(self) -> None:
+        kept = self.prefix / "bin/kept"
+        kept.parent.mkdir(parents=True)
+        kept.write_text("")
+        self.install(self.prefix)
+        self.install("--program-suffix=-x", self.prefix)
+        done = self.install("--uninstall", self.prefix)
+        self.assertEqual((done.returncode, done.stdout, done.stderr), (0, "", ""))
+        names = sorted(path.name for path in (self.prefix / "bin").iterdir())
+        self.assertEqual(names, sorted(["kept", *(f"{tool}-x" for tool in TOOLS), "papi_count-x", "papi_record-x"]))
+        self.assertTrue((self.prefix / "libexec/kistalub/papi").exists())
+        self.assertEqual(self.install("--uninstall", "--program-suffix=-x", self.prefix).returncode, 0)
+        self.assertEqual(list(self.prefix.rglob("*")), [kept.parent, kept])
+        again = self.install("--uninstall", self.prefix)
+        self.assertEqual((again.returncode, again.stderr), (1, f"install: nothing is installed there: no such file: {self.prefix}/share/kistalub/files\n"))
 
     def test_hints_find_their_parts(self) -> None:
         self.put("crates/papi/out/papi", "#!/bin/sh\necho 'papi: bad words' >&2\nexit 2\n")
@@ -118,7 +189,6 @@ class Install(InFolder):
             done = self.install("usr", DESTDIR=str(self.folder / "staged"))
             self.assertEqual((done.returncode, done.stderr), (0, ""))
         self.assertTrue((self.folder / f"staged{self.folder}/usr/bin/papi_run").exists())
-        self.assertIn(f"'{self.folder}/usr/libexec/kistalub/papi'", (self.folder / f"staged{self.folder}/usr/bin/papi_run").read_text())
         self.assertFalse((self.folder / "usr").exists())
 
     def test_a_staging_folder_by_any_name(self) -> None:

@@ -8,7 +8,7 @@ import subprocess
 from pathlib import Path
 from typing import Iterable
 
-from parts import call_table, tool_lists, tool_table
+from parts import call_answers, call_table, tool_lists, tool_table
 from parts.preset_table import MADE, NUMBERS, REGIONS, TABLE, with_number
 from tests.support import ROOT, InFolder, needs_command, some
 
@@ -73,7 +73,14 @@ class Made(InFolder):
             self.assertEqual((self.folder / name).read_bytes(), content)
 
     def test_tables_of_calls(self) -> None:
-        self.check_regions("make_calls", call_table.TABLE, call_table.MADE, call_table.REGIONS)
+        answers = call_answers.answer_texts()
+        made = (*call_table.MADE, *answers)
+        self.check_regions("make_calls", call_table.TABLE, made, call_table.REGIONS)
+        for name in some(answers)[:2]:
+            self.check("make_calls", self.folder / name)
+        shutil.rmtree(self.folder / call_answers.FOLDER)
+        self.assertEqual(self.run_tool("make_calls"), (0, "", ""))
+        self.assertEqual(self.run_tool("make_calls", "--check"), (0, "", ""))
 
     def test_tables_of_presets(self) -> None:
         self.check_regions("make_presets", TABLE, MADE, REGIONS)

@@ -4,6 +4,7 @@ from __future__ import annotations
 
 import unittest
 
+from parts.call_answers import FOLDER, MAKE, answer_texts, make_text
 from parts.call_table import ABOVE_CALLS, MADE, TABLE, WIDTH, Call, event_arms, eventless_lines, form_clauses, made_texts, read_calls, rule_lines, with_usage
 from parts.command import Fault
 from tests.support import ROOT, before_and_after, run_tool, some
@@ -77,6 +78,36 @@ class MakeCalls(unittest.TestCase):
         lines = rule_lines([call_of(f"go,,Go,code,,goes,,{words}\n")])
         self.assertGreater(len(lines), 4)
         self.assertEqual(eval("{" + "".join(lines[1:-1]) + "}"), {"go": words})
+
+    def test_a_call_that_is_handed_on_has_answers(self) -> None:
+        before, after = before_and_after(PROBE, TABLE, (), answer_texts)
+        name = f"{FOLDER}/probe_set/Answers.antt"
+        self.assertEqual([new for new in some(after) if new not in before], [name])
+        kept = "still_whole q.catalog q.codes c.book.result.now q.session c.probe_set.new.self"
+        said = "(call.ProbeSet c.args.set) (reply_of (λ value. body.SetNumber value)"
+        self.assertIn(f"    {kept} {said} c.probe_set.result) c.book.ensures.book", after[name])
+
+    def test_a_call_that_changes_nothing_keeps_the_session(self) -> None:
+        _, after = before_and_after(PROBE.replace("SetNumber", "State"), TABLE, (), answer_texts)
+        text = after[f"{FOLDER}/probe_set/Answers.antt"]
+        self.assertIn("made_still", text)
+        for left_out in ("invariant_of-self", "new.self"):
+            self.assertNotIn(left_out, text)
+
+    def test_a_call_with_an_event_or_values_has_no_answers(self) -> None:
+        for old, new in (("SET,", "SET EVENT,"), ("SetNumber", "values")):
+            before, after = before_and_after(PROBE.replace(old, new), TABLE, (), answer_texts)
+            self.assertEqual(after, before)
+
+    def test_the_first_of_the_codes_stands_without_its_arm(self) -> None:
+        calls = [call_of(line) for line in (PROBE, LINE, LINE.replace("tart", "top"))]
+        lines = make_text(calls).splitlines()
+        rewritten = "rw (c.in-{0}.is, c.plain{1}.ensures) c.{2}.ensures"
+        for variant, arm in (("Start", ""), ("Stop", "-in-Stop")):
+            body = rewritten.format(variant, arm, variant.lower())
+            self.assertIn(f"returns-in-{variant} c = {body}", lines)
+        self.assertEqual(len(lines), 7)
+        self.assertIn(MAKE, answer_texts())
 
     def test_a_bad_line_is_refused_with_its_number(self) -> None:
         for line, what in (

@@ -45,7 +45,7 @@ class MakePresets(unittest.TestCase):
 
     def test_each_number_of_possible_events_is_made(self) -> None:
         before, after = made_after("PAPI_ONE_MORE,0x8000006c,One more\n")
-        named = [path.relative_to(ROOT) for pattern in ("examples/*.expected", "crates/worked_rows/data/*.rows") for path in ROOT.glob(pattern)]
+        named = [path.relative_to(ROOT) for pattern in ("examples/*.expected", "examples/rows/*.rows") for path in ROOT.glob(pattern)]
         for name in some(str(path) for path in named if TOTAL.search((ROOT / path).read_text(encoding="utf-8"))):
             numbers = [int(number) + 1 for number in TOTAL.findall(before.get(name, ""))]
             self.assertEqual([int(number) for number in TOTAL.findall(after.get(name, ""))], some(numbers), name)

@@ -12,9 +12,10 @@ from parts.command import Fault
 from parts.event_counters import EventCounters
 from parts.left_out import Account
 from parts.libpfm4 import Event, Libpfm4, Pmu
-from parts.linux_source import PROCESSORS, Constraint, ConstraintTable, Processor, find_sources
+from parts.linux_source import PROCESSORS, Constraint, ConstraintTable, Processor, Registers, find_sources
 from parts.perf_events import Places, read_event_files
 from parts.preset_umasks import read_umasks
+from parts.shared_registers import Need, keep
 from parts.unit_of_pmu import ALWAYS, Converter
 from tests.support import ROOT, TOOLS, InFolder, needs_libpfm4, needs_program, run_program, run_tool, some
 
@@ -72,9 +73,9 @@ class UnitFile(unittest.TestCase):
     def test_rows(self) -> None:
         umask = unit_file.Umask("ALL", 1, True, True, "All, of any kind")
         event = unit_file.Event("BR_INST", 0xC4, ("P0", "F0"), "Branches", (umask,))
-        unit = unit_file.Unit("cpu", "lab", 16, 1, 1, (event,))
+        unit = unit_file.Unit("cpu", "lab", 16, 1, frozenset({0}), (event,))
         self.assertEqual(unit.rows(), [
-            "COMPONENT,cpu,lab", "COUNTER,P0,16,P", "COUNTER,F0,16,F",
+            "COMPONENT,cpu,lab", "COUNTER,F0,16,F", "COUNTER,P0,16,P",
             "EVENT,BR_INST,c4,P0 F0,Branches", "UMASK,ALL,01,dn,All; of any kind",
         ])
 
@@ -165,6 +166,30 @@ static struct event_constraint intel_skl_event_constraints[] = {
 };
 """
 
+REGISTER_TABLE = """
+static struct extra_reg intel_skl_extra_regs[] __read_mostly = {
+	INTEL_UEVENT_EXTRA_REG(0x01b7, MSR_OFFCORE_RSP_0, 0x3fffff8fffull, RSP_0),
+	INTEL_UEVENT_EXTRA_REG(0x01bb, MSR_OFFCORE_RSP_1, 0x3fffff8fffull, RSP_1),
+	INTEL_UEVENT_PEBS_LDLAT_EXTRA_REG(0x01cd),
+	/*
+	 * INTEL_UEVENT_EXTRA_REG(0x01c7, MSR_PEBS_FRONTEND, 0x7fff17, FE),
+	 */
+	INTEL_UEVENT_EXTRA_REG(0x01c6, MSR_PEBS_FRONTEND, 0x7fff17, FE),
+	EVENT_EXTRA_END
+};
+"""
+# Of amd/core.c.
+PAIRS = """
+static inline bool amd_is_pair_event_code(struct hw_perf_event *hwc)
+{
+	switch (amd_get_event_code(hwc)) {
+	case 0x003:	return true;	/* Retired SSE/AVX FLOPs */
+	default:	return false;
+	}
+}
+	case 0x004:	return true;
+"""
+
 
 # Of Linux, in tools/perf/pmu-events/arch/x86.
 FOLDERS = ("amdzen1 amdzen2 amdzen3 broadwell broadwellx cascadelakex haswell haswellx icelake icelakex ivybridge ivytown jaketown nehalemep nehalemex sandybridge sapphirerapids skylake "
@@ -182,8 +207,9 @@ class Processors(unittest.TestCase):
     def test_where_linux_has_each(self) -> None:
         self.assertEqual(sorted(each.folder for each in PROCESSORS.values()), FOLDERS)
         self.assertEqual(sorted({each.table for each in PROCESSORS.values() if each.table}), [f"intel_{name}_event_constraints" for name in TABLES])
-        for pmu, folder, table in (("skx", "skylakex", "skl"), ("wsm_dp", "westmereep-dp", "westmere"), ("ivb_ep", "ivytown", "ivb"), ("icx", "icelakex", "icl"), ("hsw", "haswell", "hsw")):
-            self.assertEqual(PROCESSORS[pmu], Processor(folder, f"intel_{table}_event_constraints"))
+        for pmu, folder, table, registers in (("skx", "skylakex", "skl", "skl"), ("wsm_dp", "westmereep-dp", "westmere", "westmere"), ("ivb", "ivybridge", "ivb", "snb"),
+                                              ("ivb_ep", "ivytown", "ivb", "snbep"), ("icx", "icelakex", "icl", "icl"), ("hsw", "haswell", "hsw", "snbep")):
+            self.assertEqual(PROCESSORS[pmu], Processor(folder, f"intel_{table}_event_constraints", f"intel_{registers}_extra_regs"))
         self.assertEqual(PROCESSORS["amd64_fam17h_zen2"], Processor("amdzen2"))
 
 
@@ -191,7 +217,7 @@ class KernelTables(InFolder):
     """The macros are those of Linux, arch/x86/events/perf_event.h."""
 
     def source(self, table: str) -> str:
-        for name, text in (("arch/x86/events/intel/core.c", table), ("tools/perf/pmu-events/arch/x86/skylake/all.json", Path(SAMPLE).read_text())):
+        for name, text in (("arch/x86/events/intel/core.c", table + REGISTER_TABLE), ("tools/perf/pmu-events/arch/x86/skylake/all.json", Path(SAMPLE).read_text())):
             path = self.folder / "linux" / name
             path.parent.mkdir(parents=True, exist_ok=True)
             path.write_text(text)
@@ -226,11 +252,35 @@ class KernelTables(InFolder):
             table = ConstraintTable([Constraint(0xC0 | 1 << bit, 0, 0xFF | 1 << bit, 0b10)])
             self.assertEqual([table.places((0xC0, 0x00), given, 4) for given in (modifiers, unit_file.NOTHING_FIXED)], [places({1}, set()), None], bit)
 
+    def amd(self) -> str:
+        for name, text in (("tools/perf/pmu-events/arch/x86/amdzen2/core.json", '[{"EventName": "ex_ret_instr", "EventCode": "0xc0"}]'), ("arch/x86/events/amd/core.c", PAIRS)):
+            path = self.folder / "linux" / name
+            path.parent.mkdir(parents=True, exist_ok=True)
+            path.write_text(text)
+        return str(self.folder / "linux")
+
     def test_a_processor_whose_files_name_no_counters(self) -> None:
-        path = self.folder / "linux/tools/perf/pmu-events/arch/x86/amdzen2/core.json"
-        path.parent.mkdir(parents=True)
-        path.write_text('[{"EventName": "ex_ret_instr", "EventCode": "0xc0"}]')
-        self.assertEqual(find_sources(str(self.folder / "linux"), "amd64_fam17h_zen2").events, [])
+        self.assertEqual(find_sources(self.amd(), "amd64_fam17h_zen2").events, [])
+
+    def test_events_of_two_counters(self) -> None:
+        self.assertEqual(find_sources(self.amd(), "amd64_fam17h_zen2").pairs, {3})
+        (self.folder / "linux/arch/x86/events/amd/core.c").write_text(PAIRS.replace("amd_is", "is"))
+        with self.assertRaisesRegex(Fault, "no amd_is_pair_event_code"):
+            find_sources(str(self.folder / "linux"), "amd64_fam17h_zen2")
+
+    def test_registers_that_events_share(self) -> None:
+        """Either offcore register serves the events of both, and the others are one each."""
+        registers = find_sources(self.source(TABLE), "skl").registers
+        self.assertEqual([(sorted(each.codes), each.count) for each in registers], [([0x1B7, 0x1BB], 2), ([0x1CD], 1), ([0x1C6], 1)])
+
+    def test_events_that_exclude_the_other_thread(self) -> None:
+        excluding = TABLE.replace("INTEL_EVENT_CONSTRAINT(0xcd", "INTEL_EXCLEVT_CONSTRAINT(0xcd")
+        for table, is_so in ((TABLE, False), (excluding, True)):
+            constraints = find_sources(self.source(table), "skl").constraints
+            assert constraints is not None
+            nothing = unit_file.NOTHING_FIXED
+            self.assertEqual([constraints.is_exclusive(code, nothing) for code in ((0xCD, 0x01), (0xC0, 0x01))], [is_so, False])
+            self.assertEqual(constraints.places((0xCD, 0x01), nothing, 4), places({3}, set()))
 
     def test_fixed_counters_are_the_kernel_s(self) -> None:
         sources = find_sources(self.source(TABLE), "skl")
@@ -254,6 +304,18 @@ class KernelTables(InFolder):
             find_sources(str(self.folder / "absent"), "skl")
 
 
+class SharedRegisters(unittest.TestCase):
+    def test_as_many_counters_as_registers_where_others_need_them_least(self) -> None:
+        group = Registers(frozenset({0x1B7, 0x1BB}), 2)
+        everywhere = places({0, 1, 2, 3}, set())
+        own = [Need(0x1B7, value, everywhere) for value in (1, 2, 3)]
+        others = [Need(0x1C0, None, places({0}, set())), Need(0x148, None, places({2, 3}, set()))]
+        self.assertEqual([each.counters for each in keep([group], own + others, 4)], [{1, 2}])
+        self.assertEqual([each.counters for each in keep([group], [Need(0x1B7, 1, places({0, 3}, set())), *own], 4)], [{0, 3}])
+        for few in ([], own[:2], [Need(0x1B7, 1, everywhere)] * 3):
+            self.assertEqual(keep([group], few + others, 4), (), few)
+
+
 @needs_libpfm4
 class RealProcessors(InFolder):
     """Codes and counters of Intel's manual, volume 3, architectural performance events."""
@@ -270,7 +332,7 @@ class RealProcessors(InFolder):
 
     def test_without_event_files(self) -> None:
         rows = self.rows("skl")
-        self.assertEqual(rows[2:4], ["COMPONENT,cpu,skl", "COUNTER,P0,48,P"])
+        self.assertEqual(rows[2:7], ["COMPONENT,cpu,skl", "COUNTER,F0,48,F", "COUNTER,F1,48,F", "COUNTER,F2,48,F", "COUNTER,P0,48,P"])
         self.assertRegex(rows[1], r"^# assumed: an event may stand on each programmable counter, .* all 8 .*--counters 4")
         everywhere = "P0 P1 P2 P3 P4 P5 P6 P7"
         self.assertTrue(self.row(rows, "EVENT,INSTRUCTION_RETIRED").startswith(f"EVENT,INSTRUCTION_RETIRED,c0,{everywhere} F0,"))
@@ -323,7 +385,7 @@ class RealProcessors(InFolder):
     def test_with_event_files(self) -> None:
         rows = self.rows("skl", "--width", "16", "--events", SAMPLE)
         self.assertRegex(rows[[row.startswith("# counters: ") for row in rows].index(True)], r"^# counters: 10 of [0-9]{3} codes have theirs in the event files$")
-        self.assertEqual([row for row in rows if row.startswith("COUNTER")][3:5], ["COUNTER,P3,16,P", "COUNTER,F0,16,F"])
+        self.assertEqual([row for row in rows if row.startswith("COUNTER")][2:4], ["COUNTER,F2,16,F", "COUNTER,P0,16,P"])
         self.assertNotIn("hyperthreading", rows[1])  # the files say which counters there are
         self.assertTrue(self.row(rows, "EVENT,INST_RETIRED").startswith("EVENT,INST_RETIRED,c0,P0 P1 P2 P3 F0,"))
         self.assertTrue(self.row(rows, "EVENT,L1D_PEND_MISS").startswith("EVENT,L1D_PEND_MISS,48,P0 P1 P2 P3,"))
@@ -335,15 +397,59 @@ class RealProcessors(InFolder):
             self.assertEqual(rows[place : place + len(more)], more)
 
     def test_with_a_kernel_s_table(self) -> None:
-        rows = self.rows("skl", "--linux", KernelTables.source(self, TABLE))
-        self.assertIn("the event files and the kernel's table allow", rows[1])
+        linux = KernelTables.source(self, TABLE)
+        rows = self.rows("skl", "--linux", linux)
+        self.assertIn("on the counters that the kernel's table allows; all 4 programmable", rows[1])
         self.assertTrue(self.row(rows, "EVENT,INST_RETIRED").startswith("EVENT,INST_RETIRED,c0,P0 P1 P2 P3 F0,"))
         self.assertTrue(self.row(rows, "EVENT,MEM_TRANS_RETIRED").startswith("EVENT,MEM_TRANS_RETIRED,cd,P3,"))
         self.assertIn("UMASK_COUNTERS,P1", rows[rows.index(self.row(rows, "UMASK,PREC_DIST")) + 1])
 
+    def test_linux_goes_by_its_table_and_documents_by_more(self) -> None:
+        """The sample puts L1D_PEND_MISS:PENDING on counter 2, of which the table says nothing."""
+        linux = KernelTables.source(self, TABLE)
+        for words, more, said in (((), [], "kernel's table allows"), (("--documents",), ["UMASK_COUNTERS,P2"], "the kernel's table and the event files allow")):
+            rows = self.rows("skl", "--linux", linux, *words)
+            self.assertIn(said, rows[1])
+            place = rows.index(self.row(rows, "UMASK,PENDING")) + 1
+            self.assertEqual([row for row in rows[place : place + 1] if row.startswith("UMASK_COUNTERS")], more)
+
+    def test_events_that_share_registers(self) -> None:
+        """Two registers of 44 values, and one of 10: as many counters. Three names of INST_RETIRED need counter 1 by the table, and the two of MEM_TRANS_RETIRED 3."""
+        rows = self.rows("skl", "--linux", KernelTables.source(self, TABLE))
+        self.assertEqual([self.row(rows, f"EVENT,OFFCORE_RESPONSE_{number}").split(",")[3] for number in (0, 1)], ["P0 P2", "P0 P2"])
+        self.assertEqual(self.row(rows, "EVENT,FRONTEND_RETIRED").split(",")[3], "P3")
+        kept = [row for row in rows if row.startswith("# kept to ")]
+        self.assertEqual([row.partition(",")[0] for row in kept], ["# kept to P3: 10 names of FRONTEND_RETIRED", "# kept to P0 P2: 52 names of OFFCORE_RESPONSE_0 and OFFCORE_RESPONSE_1"])
+
+    def test_what_a_unit_cannot_say(self) -> None:
+        excluding = KernelTables.source(self, TABLE.replace("INTEL_EVENT_CONSTRAINT(0xcd", "INTEL_EXCLEVT_CONSTRAINT(0xcd"))
+        said = "MEM_TRANS_RETIRED Linux lets a thread of a core with hyperthreading count on 2 of its 4 programmable counters"
+        for words, is_said in (((), True), (("--no-hyperthreading",), False)):
+            done = run_tool("make_unit", "skl", "--linux", excluding, *words)
+            self.assertEqual(done.returncode, 0)
+            head = " ".join(line[1:].strip() for line in done.stdout.splitlines()[:8])
+            self.assertEqual([said in text for text in (head, done.stderr)], [is_said, is_said], words)
+        done = run_tool("make_unit", "amd64_fam17h_zen2", "--linux", KernelTables.amd(self))
+        self.assertIn("make_unit: amd64_fam17h_zen2: each of 5 names of RETIRED_SSE_AVX_FLOPS takes two counters", done.stderr)
+        self.assertIn("# not said: each of 5 names of RETIRED_SSE_AVX_FLOPS", done.stdout)
+        self.assertEqual(self.row(done.stdout.splitlines(), "EVENT,RETIRED_SSE_AVX_FLOPS").split(",")[3], "P0 P2 P4")
+
+    def test_a_counter_that_the_watchdog_holds(self) -> None:
+        for pmu, counters in (("skl", "F0 F2 P0 P1 P2 P3 P4 P5 P6 P7"), ("amd64_fam17h_zen2", "P0 P1 P2 P3 P4")):
+            rows = self.rows(pmu, "--watchdog")
+            self.assertEqual(" ".join(row.split(",")[1] for row in rows if row.startswith("COUNTER")), counters)
+            self.assertIn("the kernel's watchdog holds a counter", rows[1])
+        self.assertNotIn("F1", "".join(self.rows("skl", "--watchdog")).replace("0xF1", ""))
+
+    def test_umasks_with_the_names_of_modifiers(self) -> None:
+        """Haswell has L2_LINES_IN:E. A default umask would make that name this umask with an edge, another event."""
+        rows = self.rows("hsw")
+        lines = rows[rows.index(self.row(rows, "EVENT,L2_LINES_IN")) + 1 :][:3]
+        self.assertEqual([row.split(",")[1:4] for row in lines], [["S", "02", "n"], ["ALL", "07", "-"], ["ANY", "07", "-"]])
+
     def test_fewer_counters(self) -> None:
         rows = self.rows("skl", "--counters", "4")
-        self.assertEqual([row.split(",")[1] for row in rows if row.startswith("COUNTER")], ["P0", "P1", "P2", "P3", "F0", "F1", "F2"])
+        self.assertEqual([row.split(",")[1] for row in rows if row.startswith("COUNTER")], ["F0", "F1", "F2", "P0", "P1", "P2", "P3"])
         self.assertIn("the first 4 of 8 programmable counters", rows[1])
         self.assertNotIn("hyperthreading", rows[1])
         self.assertTrue(self.row(rows, "EVENT,INSTRUCTION_RETIRED").startswith("EVENT,INSTRUCTION_RETIRED,c0,P0 P1 P2 P3 F0,"))

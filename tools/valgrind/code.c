@@ -40,7 +40,9 @@ void code_call(code *c, IRExpr *guard, const HChar *name, void *function, IRExpr
 
 static ULong count_of(UInt kind) { return OFFSET(counts) + 8UL * kind; }
 static ULong left_of(UInt kind) { return OFFSET(left) + 8UL * kind; }
-static Bool is_kept(UInt kind) { return kind == KL_INSTRUCTIONS || words.has_counts; }
+static Bool is_kept(UInt kind) {
+    return kind == KL_INSTRUCTIONS || (words.has_counts && counts_kind(kind));
+}
 static Bool counts_down(UInt kind) { return kind < KL_KINDS && is_armed[kind]; }
 
 static void share_out(code *c, UInt kind, Int amount) {

@@ -74,14 +74,25 @@ void code_checks_beginning(code *c);
 
 /* The machine is asked. */
 void code_fetches(code *c);
-typedef struct { IRExpr *address, *guard; UInt size; Bool loads, stores; } access;
+typedef struct {
+    IRExpr *address, *guard;
+    UInt size;
+    Bool loads, stores;
+    IRExpr *mask; /* a bit for each element that is accessed, or NULL */
+    UInt width;   /* of an element */
+} access;
 void code_accesses(code *c, const access *a);
 void code_branches(code *c, IRExpr *taken); /* a conditional branch, behind its straight line */
+/* This counts them too: nothing looks at each branch when it happens. */
+Bool code_counts_outcomes(void);
 
 IRSB *instrument(VgCallbackClosure *closure, IRSB *in, const VexGuestLayout *guest_layout, const VexGuestExtents *extents, const VexArchInfo *host, IRType guest_word,
                  IRType host_word);
 
 /* Where the library's code is, which is not counted; and where counting begins. */
 extern Addr library_first, library_end, counting_from;
+
+/* A library in the program asks for counts. */
+extern Bool has_library;
 
 #endif

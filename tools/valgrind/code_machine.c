@@ -56,8 +56,23 @@ static IRExpr *machine_differs(code *c, const access *a) {
     return code_or(c, line_differs, page_differs);
 }
 
+/* An access of which a mask chooses the elements. */
+static void asks_masked(code *c, const access *a) {
+    const access each = {.size = a->width, .loads = a->loads, .stores = a->stores};
+    if (!words.has_model || (!current->l1d.tags && !current->dtlb.tags && !notes_hits(&each))) return;
+    site *s = new_site(c, a->width, a->loads ? BY_LOAD : BY_STORE);
+    s->notes_hits = notes_hits(&each);
+    code_call(c, NULL, "model_sees_masked", model_sees_masked, mkIRExprVec_4(code_word((Addr)s), a->address, a->mask, code_word(a->width)));
+    code_asks_machine(c);
+}
+
 /* An access on the tape, with the machine behind it. If it is guarded each is called by itself. */
 void code_accesses(code *c, const access *a) {
+    if (a->mask) {
+        code_notes(c, a->loads ? KL_LOADS : KL_STORES, c->pc, 1, IN_ACCESS, NULL);
+        asks_masked(c, a);
+        return;
+    }
     Bool is_asked = words.has_model && (current->l1d.tags || current->dtlb.tags || notes_hits(a));
     if (!is_asked && !words.has_tape) return;
     site *s = new_site(c, a->size, a->loads ? BY_LOAD : BY_STORE);
@@ -98,16 +113,32 @@ static IRExpr *predict(code *c, IRExpr *taken) {
     return code_two(c, Iop_Xor64, code_shifted(c, Iop_Shr64, before, 1), taken);
 }
 
+Bool code_counts_outcomes(void) { return has_predictor() && !words.has_tape && !has_library; }
+
+static void count_outcome(code *c, IRExpr *taken) {
+    IRExpr *errs = code_shifted(c, Iop_Shl64, predict(c, taken), 1);
+    IRExpr *offset = code_shifted(c, Iop_Shl64, code_two(c, Iop_Or64, errs, taken), 3);
+    IRExpr *first = code_word(OFFSET(counts) + 8UL * RIGHT_NOT_TAKEN);
+    IRExpr *at = code_two(c, Iop_Add64, code_two(c, Iop_Add64, c->base, offset), first);
+    IRExpr *count = code_two(c, Iop_Add64, code_load(c, at), code_word(1));
+    addStmtToIRSB(c->out, IRStmt_Store(Iend_LE, at, count));
+}
+
 void code_branches(code *c, IRExpr *taken) {
-    if (!words.has_model && !words.has_tape) return;
+    if (code_counts_outcomes()) {
+        count_outcome(c, code_widened(c, taken));
+        return;
+    }
+    if (!has_predictor() && !words.has_tape) return;
     IRExpr *full = NULL, *was_taken = code_widened(c, taken), *errs = code_word(0);
     site *s = new_site(c, c->size, BY_BRANCH);
     if (words.has_tape) {
         full = code_or(c, code_takes_line(c, &s->line), code_takes_branch(c, s->branch, taken));
         s->items = 1;
     }
-    if (words.has_model) errs = predict(c, was_taken);
-    IRExpr *calls = code_is(c, Iop_CmpNE64, code_or(c, full, words.has_model ? errs : NULL), code_word(0));
+    if (has_predictor()) errs = predict(c, was_taken);
+    IRExpr *differs = code_or(c, full, has_predictor() ? errs : NULL);
+    IRExpr *calls = code_is(c, Iop_CmpNE64, differs, code_word(0));
     code_call(c, calls, "model_sees_branch", model_sees_branch, mkIRExprVec_3(code_word((Addr)s), was_taken, errs));
     code_asks_machine(c);
 }

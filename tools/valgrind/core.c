@@ -68,7 +68,7 @@ void cores_begin(void) {
     nobodys->is_nobodys = True;
     nobodys->rooms = idle_rooms();
     current = nobodys;
-    has_begun = !words.from;
+    has_begun = !words.from && !words.from_entry;
     cache_begins(&shared_l3, &words.l3, pages(cache_room(&words.l3) + LINE));
 }
 
@@ -85,11 +85,15 @@ void core_thread_begins(ThreadId tid) {
     if (words.is_stopped) core_stops(c);
 }
 
-/* All counts so far, with those that are sums of others. */
-static void sum_up(const core *c, ULong all[ALL_KINDS]) {
+void core_sums(const core *c, ULong all[ALL_KINDS]) {
     for (UInt i = 0; i < ALL_KINDS; i++) all[i] = c->counts[i];
     all[KL_TAKEN] += all[LEFT_TAKEN] - all[STAYED_NOT_TAKEN] + all[STAYED_TAKEN];
     all[KL_NOT_TAKEN] += all[LEFT_NOT_TAKEN] - all[STAYED_TAKEN] + all[STAYED_NOT_TAKEN];
+    all[KL_TAKEN] += all[RIGHT_TAKEN] + all[WRONG_TAKEN];
+    all[KL_NOT_TAKEN] += all[RIGHT_NOT_TAKEN] + all[WRONG_NOT_TAKEN];
+    all[KL_ERRED_TAKEN] += all[WRONG_TAKEN];
+    all[KL_ERRED_NOT_TAKEN] += all[WRONG_NOT_TAKEN];
+    all[KL_STALLS] += words.costs[BRANCH_ERRED] * (all[WRONG_TAKEN] + all[WRONG_NOT_TAKEN]);
     all[KL_CYCLES] += all[KL_INSTRUCTIONS] + all[KL_STALLS];
 }
 
@@ -98,7 +102,7 @@ void core_thread_ends(ThreadId tid) {
     core *c = cores[tid];
     if (!c || !c->is_used) return;
     if (c->tape) tape_ends(c);
-    sum_up(c, all);
+    core_sums(c, all);
     for (UInt i = 0; i < ALL_KINDS; i++) ended[i] += all[i];
     c->is_used = False;
     set_current(running);
@@ -138,7 +142,7 @@ void core_takes(core *c, UInt kind, Long amount) {
 void core_starts(core *c) {
     ULong now[ALL_KINDS];
     if (!c->is_stopped) return;
-    sum_up(c, now);
+    core_sums(c, now);
     for (UInt i = 0; i < ALL_KINDS; i++) c->dropped[i] += now[i] - c->at_stop[i];
     for (UInt i = 0; i < KL_KINDS; i++) c->left[i] = c->period[i] ? c->left_at_stop[i] : NEVER;
     c->leaves = core_has_passed(c) ? -1 : 0;
@@ -148,7 +152,7 @@ void core_starts(core *c) {
 
 void core_stops(core *c) {
     if (c->is_stopped) return;
-    sum_up(c, c->at_stop);
+    core_sums(c, c->at_stop);
     for (UInt i = 0; i < KL_KINDS; i++) {
         c->left_at_stop[i] = c->left[i];
         c->left[i] = NEVER;
@@ -160,7 +164,7 @@ void core_stops(core *c) {
 
 void core_counts(const core *c, ULong counts[ALL_KINDS]) {
     if (c->is_stopped) VG_(memcpy)(counts, c->at_stop, sizeof c->at_stop);
-    else sum_up(c, counts);
+    else core_sums(c, counts);
     for (UInt i = 0; i < ALL_KINDS; i++) counts[i] -= c->dropped[i];
 }
 
@@ -169,14 +173,14 @@ void all_counts(ULong all[ALL_KINDS]) {
     for (ThreadId tid = 1; tid < VG_N_THREADS; tid++) {
         ULong of_thread[ALL_KINDS];
         if (!core_of(tid)) continue;
-        sum_up(cores[tid], of_thread);
+        core_sums(cores[tid], of_thread);
         for (UInt i = 0; i < ALL_KINDS; i++) all[i] += of_thread[i];
     }
 }
 
 ULong cycles_of(const core *c) {
     ULong all[ALL_KINDS];
-    sum_up(c, all);
+    core_sums(c, all);
     return all[KL_CYCLES];
 }
 

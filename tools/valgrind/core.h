@@ -72,7 +72,9 @@ void core_stops(core *c);
 /* The counts of a core without what is derived from others, and all counts while the thread was not stopped. */
 void core_counts(const core *c, ULong counts[ALL_KINDS]);
 
-/* The counts of all threads, whether they were stopped or not. */
+/* All counts of a core so far, with those that are sums of others, whether it was stopped or not;
+ * and those of all threads. */
+void core_sums(const core *c, ULong all[ALL_KINDS]);
 void all_counts(ULong all[ALL_KINDS]);
 
 /* The cycles of a core, and of all threads, whether they counted or not. */

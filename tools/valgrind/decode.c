@@ -1,10 +1,10 @@
 #include "decode.h"
 
-#include <stdbool.h>
-
 /* What stands before the opcode. `form` is that of vectors: packed singles, packed doubles, a single, a double. */
 typedef struct {
     bool has_lock, repeats, is_vex, is_wide, is_double; /* is_wide: of 256 bits; is_double: VEX.W */
+    bool is_short;                                      /* an address of 32 bits */
+    unsigned char rex, segment;
     enum { PACKED_SINGLES, PACKED_DOUBLES, ONE_SINGLE, ONE_DOUBLE } form;
 } prefixes;
 
@@ -108,12 +108,15 @@ static const unsigned char *read_prefixes(prefixes *p, const unsigned char *at, 
         case 0xF2: has_f2 = true; continue;
         case 0xF3: has_f3 = true; continue;
         case 0xF0: p->has_lock = true; continue;
-        case 0x67: case 0x2E: case 0x36: case 0x3E: case 0x26: case 0x64: case 0x65: continue;
+        case 0x67: p->is_short = true; continue;
+        case 0x64: p->segment = SEGMENT_FS; continue;
+        case 0x65: p->segment = SEGMENT_GS; continue;
+        case 0x2E: case 0x36: case 0x3E: case 0x26: continue;
         default: break;
         }
         break;
     }
-    if (at < end && (*at & 0xF0) == 0x40) at++; /* REX */
+    if (at < end && (*at & 0xF0) == 0x40) p->rex = *at++;
     p->repeats = has_f2 || has_f3;
     p->form = has_f2 ? ONE_DOUBLE : has_f3 ? ONE_SINGLE : has_66 ? PACKED_DOUBLES : PACKED_SINGLES;
     return at;
@@ -132,4 +135,81 @@ unsigned char class_of_bytes(const unsigned char *bytes, unsigned length) {
     if (behind == 0x3A) return at + 2 < end ? class_of_0f3a(&p, at[2]) : PLAIN;
     bool compares = behind == 0xB0 || behind == 0xB1 || behind == 0xC7; /* cmpxchg needs no trying again */
     return class_of_0f(&p, behind) | (p.has_lock && !compares ? LOCKS : 0);
+}
+
+/* -- operands in memory -- */
+
+static operands operands_of_vex(const unsigned char *at, const unsigned char *end) {
+    bool is_short = *at == 0xC5;
+    if (at + (is_short ? 2 : 3) >= end) return OPERANDS_WHOLE;
+    unsigned char map = is_short ? 1 : at[1] & 31, opcode = is_short ? at[2] : at[3];
+    if (map == 1) return opcode == 0xF7 ? OPERANDS_STORED : OPERANDS_WHOLE; /* maskmovdqu */
+    if (map != 2) return OPERANDS_WHOLE;
+    if ((opcode >= 0x2C && opcode <= 0x2F) || opcode == 0x8C || opcode == 0x8E) return OPERANDS_MASKED;
+    return opcode >= 0x90 && opcode <= 0x93 ? OPERANDS_GATHERED : OPERANDS_WHOLE;
+}
+
+/* Opcodes after 0F, with the byte behind. */
+static operands operands_of_0f(unsigned char opcode, unsigned char modrm) {
+    unsigned digit = modrm >> 3 & 7;
+    bool is_register = modrm >= 0xC0;
+    switch (opcode) {
+    case 0x0D: return !is_register && digit <= 2 ? OPERANDS_PREFETCHED : OPERANDS_WHOLE;
+    case 0x18: return !is_register && digit <= 3 ? OPERANDS_PREFETCHED : OPERANDS_WHOLE;
+    case 0xA3: case 0xAB: case 0xB3: case 0xBB: return is_register ? OPERANDS_NONE : OPERANDS_WHOLE; /* bt, bts, btr, btc */
+    case 0xAE: return !is_register && digit <= 1 ? OPERANDS_OF_512 : OPERANDS_WHOLE; /* fxsave, fxrstor */
+    case 0xF7: return OPERANDS_STORED; /* maskmovq, maskmovdqu */
+    default: return OPERANDS_WHOLE;
+    }
+}
+
+operands operands_of_bytes(const unsigned char *bytes, unsigned length) {
+    const unsigned char *end = bytes + length;
+    prefixes p = {0};
+    const unsigned char *at = read_prefixes(&p, bytes, end);
+    if (at >= end) return OPERANDS_WHOLE;
+    if (*at == 0xC4 || *at == 0xC5) return operands_of_vex(at, end);
+    if (*at == 0xA6 || *at == 0xA7) return OPERANDS_EACH; /* cmps, whose two may be at one place */
+    return *at == 0x0F && at + 2 < end ? operands_of_0f(at[1], at[2]) : OPERANDS_WHOLE;
+}
+
+static long signed_of(const unsigned char *at, unsigned bytes) {
+    unsigned long value = 0;
+    for (unsigned i = 0; i < bytes; i++) value |= (unsigned long)at[i] << 8 * i;
+    return bytes == 1 ? (signed char)value : (int)value;
+}
+
+operand_address address_of_bytes(const unsigned char *bytes, unsigned length) {
+    prefixes p = {0};
+    const unsigned char *at = read_prefixes(&p, bytes, bytes + length) + 2;
+    unsigned char modrm = *at++;
+    unsigned mode = modrm >> 6, low = modrm & 7;
+    operand_address a = {.base = (int)(low | (p.rex & 1u) << 3), .index = NO_REGISTER, .is_short = p.is_short};
+    a.segment = p.segment;
+    if (low == 4) {
+        unsigned char sib = *at++;
+        int index = (sib >> 3 & 7) | (p.rex & 2) << 2;
+        low = sib & 7;
+        a.base = (int)(low | (p.rex & 1u) << 3);
+        a.index = index == 4 ? NO_REGISTER : index;
+        a.scale = sib >> 6;
+    } else a.is_of_next = mode == 0 && low == 5;
+    bool has_none = mode == 0 && low == 5;
+    if (has_none) a.base = NO_REGISTER;
+    a.displacement = mode == 1 ? signed_of(at, 1) : mode == 2 || has_none ? signed_of(at, 4) : 0;
+    return a;
+}
+
+/* -- instructions that can't be run -- */
+
+bool is_undefined_by_intent(const unsigned char *bytes) { return bytes[0] == 0x0F && (bytes[1] == 0x0B || bytes[1] == 0xB9 || bytes[1] == 0xFF); }
+
+/* EVEX, and VEX of the instructions of mask registers. */
+bool is_of_avx512(const unsigned char *bytes) {
+    if (bytes[0] == 0x62) return true;
+    if (bytes[0] != 0xC4 && bytes[0] != 0xC5) return false;
+    bool is_short = bytes[0] == 0xC5;
+    unsigned char map = is_short ? 1 : bytes[1] & 31, opcode = is_short ? bytes[2] : bytes[3];
+    if (map == 1) return (opcode >= 0x41 && opcode <= 0x4B) || (opcode >= 0x90 && opcode <= 0x93) || opcode == 0x98 || opcode == 0x99;
+    return map == 3 && opcode >= 0x30 && opcode <= 0x33;
 }

@@ -17,6 +17,7 @@
 #include "sleep.h"
 #include "tape.h"
 #include "thresholds.h"
+#include "totals.h"
 #include "words.h"
 
 /* What the system tells a program beside its stack (elf.h). */
@@ -24,8 +25,6 @@ enum { AT_NULL = 0, AT_ENTRY = 9, AT_RANDOM = 25 };
 
 #define PADDING "KISTALUB_PADDING="
 #define RANDOM_BYTES 16
-
-static Bool has_children; /* what they did is not known here */
 
 /* -- the program's beginning -- */
 
@@ -57,6 +56,7 @@ void program_is_loaded(void) {
     ThreadId tid = VG_(get_running_tid)();
     Addr entry = read_stack((const UWord *)VG_(get_SP)(tid)), base = words.entry ? entry - words.entry : 0;
     streams_begin(base);
+    if (words.from_entry) counting_from = entry;
     if (words.from) counting_from = words.from + base;
 }
 
@@ -88,6 +88,7 @@ void thread_begins(ThreadId parent, ThreadId tid) {
 
 void thread_ends(ThreadId tid) {
     if (words.shows_totals && core_of(tid)) print_totals(core_of(tid));
+    totals_of_thread(tid);
     core_thread_ends(tid);
 }
 
@@ -95,13 +96,14 @@ void thread_ends(ThreadId tid) {
 
 static void child_is_made(ThreadId tid) {
     (void)tid;
-    has_children = True;
+    totals_of_parent();
 }
 
 /* A child counts on by itself, but what its parent writes is not its own. */
 static void child_begins(ThreadId tid) {
     (void)tid;
     outputs_close();
+    totals_of_child();
     if (words.stream >= 0 || words.streams) counting_ends();
 }
 
@@ -114,13 +116,16 @@ void system_call_begins(ThreadId tid, UInt number, UWord *arguments, UInt count)
     if (!is_exec(number)) return;
     core *c = core_of(tid);
     if (c && c->tape) tape_flushes(c);
+    totals_before_exec();
     report("exec %s", (const HChar *)arguments[number == __NR_execveat]);
 }
 
 void system_call_ended(ThreadId tid, UInt number, UWord *arguments, UInt count, SysRes result) {
     (void)count;
     sleep_ended(tid, number, arguments, result);
-    if (is_exec(number)) report("exec");
+    if (!is_exec(number)) return;
+    totals_stay();
+    report("exec");
 }
 
 /* -- faults and memory -- */
@@ -170,18 +175,10 @@ static void tell_totals(void) {
     report("calls %llu\nfrom %d", calls_made(), counting_has_begun());
 }
 
-/* Says that the program made no call of the library, if it is the one that was started. */
-static void tell_no_call(void) {
-    HChar *line;
-    if (!words.no_call || calls_made() || has_children || VG_(strtoll10)(words.no_call, &line) != VG_(getpid)() || *line != ':') return;
-    VG_(printf)("%s\n", line + 1);
-}
-
-void events_begin(void) { VG_(atfork)(NULL, child_is_made, child_begins); }
+void events_begin(void) { VG_(atfork)(totals_before_fork, child_is_made, child_begins); }
 
 void events_end(Int status) {
     (void)status;
-    tell_no_call();
     for (ThreadId tid = 1; tid < VG_N_THREADS; tid++) {
         core *c = core_of(tid);
         if (!c) continue;
@@ -189,4 +186,5 @@ void events_end(Int status) {
         if (c->tape) tape_ends(c);
     }
     if (words.has_tape) tell_totals();
+    totals_end();
 }

@@ -8,11 +8,13 @@
 
 #include "decode.h"
 #include "events.h"
+#include "operands.h"
 #include "slots.h"
 #include "thresholds.h"
 #include "words.h"
 
 Addr library_first, library_end, counting_from;
+Bool has_library;
 
 static UInt kind_of_class(const code *c) { return c->class & CLASS_BITS; }
 static Bool is_conditional(const code *c) { return c->is_counted && kind_of_class(c) == CONDITIONAL; }
@@ -30,7 +32,7 @@ static void branch_ends(code *c, Bool is_known, Addr next) {
     }
     if (!is_conditional(c) || c->is_branch_seen) return;
     Bool taken = is_known && next != c->pc + c->size; /* what it does was known when it was translated */
-    code_happens(c, taken ? KL_TAKEN : KL_NOT_TAKEN, 1);
+    if (!code_counts_outcomes()) code_happens(c, taken ? KL_TAKEN : KL_NOT_TAKEN, 1);
     code_branches(c, IRExpr_Const(IRConst_U1(taken)));
     c->line = c->number + 1;
 }
@@ -83,7 +85,9 @@ static void instruction_begins(code *c, Addr pc, UInt size) {
 /* -- exits -- */
 
 /* Whether a branch is counted by its guard. If not it is counted as if it left, and put right behind the exit. */
-static Bool is_by_guard(void) { return words.has_model || words.has_tape || is_armed[KL_TAKEN] || is_armed[KL_NOT_TAKEN]; }
+static Bool is_by_guard(void) {
+    return has_predictor() || words.has_tape || is_armed[KL_TAKEN] || is_armed[KL_NOT_TAKEN];
+}
 
 static void branch_leaves(code *c, IRExpr *guard, Bool leaves_taken) {
     c->is_branch_seen = True;
@@ -92,8 +96,10 @@ static void branch_leaves(code *c, IRExpr *guard, Bool leaves_taken) {
         return;
     }
     IRExpr *not_guard = code_make(c, Ity_I1, IRExpr_Unop(Iop_Not1, guard)), *taken = leaves_taken ? guard : not_guard;
-    code_may_happen(c, KL_TAKEN, taken);
-    code_may_happen(c, KL_NOT_TAKEN, leaves_taken ? not_guard : guard);
+    if (!code_counts_outcomes()) {
+        code_may_happen(c, KL_TAKEN, taken);
+        code_may_happen(c, KL_NOT_TAKEN, leaves_taken ? not_guard : guard);
+    }
     code_branches(c, taken);
     c->line = c->number + 1;
 }
@@ -118,61 +124,18 @@ static void leave(code *c, IRStmt *exit) {
 
 /* -- accesses -- */
 
-static UInt size_of(const IRSB *sb, const IRExpr *e) { return (UInt)sizeofIRType(typeOfIRExpr(sb->tyenv, e)); }
-
-static UInt size_of_guarded(IRLoadGOp op) {
-    IRType result, loaded;
-    typeOfIRLoadGOp(op, &result, &loaded);
-    return (UInt)sizeofIRType(loaded);
-}
-
-static access access_of_helper(const IRDirty *d) {
-    Bool is_always = d->guard->tag == Iex_Const && d->guard->Iex.Const.con->Ico.U1;
-    return (access){d->mAddr, is_always ? NULL : d->guard, (UInt)d->mSize, d->mFx == Ifx_Read || d->mFx == Ifx_Modify, d->mFx == Ifx_Write || d->mFx == Ifx_Modify};
-}
-
-/* What a statement does to memory. */
-static access access_of(const IRSB *sb, const IRStmt *s) {
-    const access none = {0};
-    switch (s->tag) {
-    case Ist_WrTmp:
-        if (s->Ist.WrTmp.data->tag != Iex_Load) return none;
-        return (access){s->Ist.WrTmp.data->Iex.Load.addr, NULL, (UInt)sizeofIRType(s->Ist.WrTmp.data->Iex.Load.ty), True, False};
-    case Ist_Store: return (access){s->Ist.Store.addr, NULL, size_of(sb, s->Ist.Store.data), False, True};
-    case Ist_LoadG: return (access){s->Ist.LoadG.details->addr, s->Ist.LoadG.details->guard, size_of_guarded(s->Ist.LoadG.details->cvt), True, False};
-    case Ist_StoreG: return (access){s->Ist.StoreG.details->addr, s->Ist.StoreG.details->guard, size_of(sb, s->Ist.StoreG.details->data), False, True};
-    case Ist_Dirty: return access_of_helper(s->Ist.Dirty.details);
-    case Ist_CAS: return (access){s->Ist.CAS.details->addr, NULL, size_of(sb, s->Ist.CAS.details->dataLo) * (s->Ist.CAS.details->dataHi ? 2 : 1), True, True};
-    default: return none;
-    }
-}
-
-/* The store of the same instruction that changes in place what was loaded, if it is the next access: its number, or 0. */
-static Int store_in_place(const IRSB *sb, Int i, const access *of) {
-    for (i++; i < sb->stmts_used && sb->stmts[i]->tag != Ist_IMark && sb->stmts[i]->tag != Ist_Exit; i++) {
-        access a = access_of(sb, sb->stmts[i]);
-        if (!a.loads && !a.stores) continue;
-        return !a.loads && !a.guard && a.size == of->size && eqIRAtom(a.address, of->address) ? i : 0;
-    }
-    return 0;
-}
-
 static void count_access(code *c, const access *a, UInt kind) {
     if (a->guard) code_may_happen(c, kind, a->guard);
     else code_happens(c, kind, 1);
 }
 
-/* Adds what an access counts. Gives the number of a later statement that is a part of it, or 0. */
-static Int see_access(code *c, const IRSB *sb, Int i) {
-    access a = access_of(sb, sb->stmts[i]);
-    Int later = 0;
-    if (!c->is_counted || (!a.loads && !a.stores)) return 0;
-    if (a.loads && !a.stores && !a.guard && (later = store_in_place(sb, i, &a))) a.stores = True;
-    if (a.loads) count_access(c, &a, KL_LOADS);
-    if (a.stores) count_access(c, &a, KL_STORES);
-    if (words.has_further && a.loads && a.stores) code_happens(c, MODIFIES, 1);
-    code_accesses(c, &a);
-    return later;
+/* Adds what an access counts. */
+static void see_access(code *c, const access *a) {
+    if (!c->is_counted || (!a->loads && !a->stores)) return;
+    if (a->loads) count_access(c, a, KL_LOADS);
+    if (a->stores) count_access(c, a, KL_STORES);
+    if (words.has_further && a->loads && a->stores) code_happens(c, MODIFIES, 1);
+    code_accesses(c, a);
 }
 
 /* -- the block -- */
@@ -221,7 +184,7 @@ IRSB *instrument(VgCallbackClosure *closure, IRSB *in, const VexGuestLayout *gue
     program_is_loaded(); /* the first block is translated before the core says that the program goes on */
     code whole = {.out = deepCopyIRSBExceptStmts(in), .of = block_of(closure->nraddr, in), .first = closure->readdr, .shares = shares, .shares_room = shares_room}, *c = &whole;
     c->is_redirected = closure->readdr != closure->nraddr;
-    Int i = 0, later = 0;
+    Int i = 0;
     (void)guest_layout, (void)extents, (void)host, (void)guest_word, (void)host_word;
     while (i < in->stmts_used && in->stmts[i]->tag != Ist_IMark) addStmtToIRSB(c->out, in->stmts[i++]);
     for (; i < in->stmts_used; i++) {
@@ -230,9 +193,10 @@ IRSB *instrument(VgCallbackClosure *closure, IRSB *in, const VexGuestLayout *gue
             leave(c, s);
             continue;
         }
-        if (s->tag != Ist_IMark && i != later) {
-            Int found = see_access(c, in, i);
-            if (found) later = found;
+        access a;
+        if (marks_access(s, &a)) {
+            see_access(c, &a);
+            continue;
         }
         addStmtToIRSB(c->out, s);
         if (s->tag == Ist_IMark) instruction_begins(c, s->Ist.IMark.addr, s->Ist.IMark.len);

@@ -16,6 +16,9 @@ enum {
     REPEATED, /* instructions that repeat themselves */
     TURNS,    /* their turns */
     MODIFIES, /* accesses that are a load and a store */
+    /* Conditional branches by their outcome and by what was predicted, if the code counts them so:
+     * it adds the outcome, and 2 if the predictor was wrong. */
+    RIGHT_NOT_TAKEN, RIGHT_TAKEN, WRONG_NOT_TAKEN, WRONG_TAKEN,
     ALL_KINDS
 };
 

@@ -34,28 +34,6 @@ void cache_begins(cache *c, const shape *s, void *room) {
     c->line_bits = bits_of(s->bytes_of_line);
 }
 
-static inline bool line_misses(cache *c, uint64_t line) {
-    uint64_t number = line & c->last_set, *set = c->tags + number * c->ways, before = set[0];
-    if (before == line) return false;
-    c->used_last[number] = line << c->line_bits;
-    set[0] = line;
-    for (unsigned way = 1; way < c->ways; way++) {
-        uint64_t now = set[way];
-        set[way] = before;
-        if (now == line) return false;
-        before = now;
-    }
-    return true;
-}
-
-bool cache_misses(cache *c, uint64_t address, uint64_t size) {
-    uint64_t line = address >> c->line_bits, last = (address + (size ? size - 1 : 0)) >> c->line_bits;
-    bool misses = line_misses(c, line);
-    while (line < last)
-        if (line_misses(c, ++line)) misses = true;
-    return misses;
-}
-
 void predictor_begins(predictor *p, unsigned bits, uint8_t *counters) {
     p->counters = counters;
     p->last = ((uint64_t)1 << bits) - 1;

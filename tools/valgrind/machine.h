@@ -34,8 +34,29 @@ bool shape_is_right(const shape *s);
 size_t cache_room(const shape *s);
 void cache_begins(cache *c, const shape *s, void *room);
 
+static inline bool line_misses(cache *c, uint64_t line) {
+    uint64_t number = line & c->last_set, *set = c->tags + number * c->ways, before = set[0];
+    if (before == line) return false;
+    c->used_last[number] = line << c->line_bits;
+    set[0] = line;
+    for (unsigned way = 1; way < c->ways; way++) {
+        uint64_t now = set[way];
+        set[way] = before;
+        if (now == line) return false;
+        before = now;
+    }
+    return true;
+}
+
 /* Uses the lines of `size` bytes from an address on, and says whether one of them was not there. */
-bool cache_misses(cache *c, uint64_t address, uint64_t size);
+static inline bool cache_misses(cache *c, uint64_t address, uint64_t size) {
+    uint64_t line = address >> c->line_bits;
+    uint64_t last = (address + (size ? size - 1 : 0)) >> c->line_bits;
+    bool misses = line_misses(c, line);
+    while (line < last)
+        if (line_misses(c, ++line)) misses = true;
+    return misses;
+}
 
 /* Makes a predictor with 2^bits counters, a byte for each, weakly not taken. */
 void predictor_begins(predictor *p, unsigned bits, uint8_t *counters);

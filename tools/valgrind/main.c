@@ -14,12 +14,15 @@
 #include "output.h"
 #include "requests.h"
 #include "slots.h"
+#include "totals.h"
 #include "words.h"
 
 static void begin(void) {
+    words_end();
     outputs_begin();
     slots_begin();
     cores_begin();
+    totals_begin();
     events_begin();
 }
 
@@ -31,7 +34,7 @@ static void begin_words(void) {
     VG_(details_bug_reports_to)("the Kistalub authors");
     VG_(details_avg_translation_sizeB)(700);
     VG_(basic_tool_funcs)(begin, instrument, events_end);
-    VG_(needs_command_line_options)(words_take, words_print, words_print);
+    VG_(needs_command_line_options)(words_take, words_print, words_print_kinds);
     VG_(needs_client_requests)(answer_request);
     VG_(needs_superblock_discards)(forget_block);
     VG_(needs_syscall_wrapper)(system_call_begins, system_call_ended);

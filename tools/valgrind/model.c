@@ -2,6 +2,7 @@
 
 #include "slots.h"
 #include "tape.h"
+#include "thresholds.h"
 #include "words.h"
 
 enum { OWN_MISS, L2_HIT, L2_MISS, L3_HIT, L3_MISS, PAGE_MISS, CYCLES, STALLS, OWN_HIT, MADE_HERE };
@@ -24,16 +25,18 @@ static void put_on_tape(core *c, site *s, UInt what, UInt amount) {
 static void happens(core *c, site *s, UInt what) {
     UInt kind = kinds[s->side][what];
     c->counts[kind]++;
-    if (--c->left[kind] <= 0) c->leaves = -1;
+    if (is_machine_armed && --c->left[kind] <= 0) c->leaves = -1;
     if (c->tape) put_on_tape(c, s, what, 1);
 }
 
 static void stall(core *c, site *s, UInt cost) {
     ULong cycles = words.costs[cost];
     c->counts[KL_STALLS] += cycles;
-    c->left[KL_STALLS] -= (Long)cycles;
-    c->left[KL_CYCLES] -= (Long)cycles;
-    if (c->left[KL_STALLS] <= 0 || c->left[KL_CYCLES] <= (Long)c->at->count) c->leaves = -1;
+    if (is_machine_armed) {
+        c->left[KL_STALLS] -= (Long)cycles;
+        c->left[KL_CYCLES] -= (Long)cycles;
+        if (c->left[KL_STALLS] <= 0 || c->left[KL_CYCLES] <= (Long)c->at->count) c->leaves = -1;
+    }
     if (!c->tape) return;
     put_on_tape(c, s, CYCLES, (UInt)cycles);
     put_on_tape(c, s, STALLS, (UInt)cycles);
@@ -80,6 +83,13 @@ void model_sees_access(site *s, Addr address) {
     for (UInt i = 0; i < s->items; i++)
         if (has_no_room(c, s->access[i].slot)) tape_sees_item(s->access + i);
     if (words.has_model) meet(c, s, address, &c->dtlb, &c->l1d);
+}
+
+void model_sees_masked(site *s, Addr address, ULong mask, ULong width) {
+    if (!mask) return;
+    UInt first = (UInt)__builtin_ctzll(mask), last = 63 - (UInt)__builtin_clzll(mask);
+    s->size = (UShort)((last - first + 1) * width);
+    meet(current, s, address + first * width, &current->dtlb, &current->l1d);
 }
 
 void model_sees_fetch(site *s) { meet(current, s, s->pc, &current->itlb, &current->l1i); }

@@ -18,6 +18,7 @@ enum { BY_LOAD, BY_STORE, BY_FETCH, BY_BRANCH };
 
 /* What is on the tape was taken from its rooms. Where there is none left, it is noted here. */
 void model_sees_access(site *s, Addr address);
+void model_sees_masked(site *s, Addr address, ULong mask, ULong width); /* from the first element that the mask has to the last one */
 void model_sees_fetch(site *s);
 void model_sees_branch(site *s, ULong taken, ULong errs); /* errs: it was predicted wrongly */
 

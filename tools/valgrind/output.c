@@ -13,8 +13,6 @@
 #define LONGEST_NAME 4096
 #define FAILED 1
 
-/* Moves a descriptor to where the program has none. It is a function of Valgrind's core. */
-extern Int VG_(safe_fd)(Int descriptor);
 
 struct stream {
     Int file; /* or -1 */

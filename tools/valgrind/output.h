@@ -5,6 +5,9 @@
 
 #define MOST_STREAM_BYTES 67108864u
 
+/* Moves a descriptor to where the program has none. It is a function of Valgrind's core. */
+extern Int VG_(safe_fd)(Int descriptor);
+
 void outputs_begin(void);
 
 /* A line for the process that started this run. */

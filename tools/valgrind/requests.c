@@ -9,6 +9,7 @@
 #include "sleep.h"
 #include "tape.h"
 #include "thresholds.h"
+#include "totals.h"
 #include "words.h"
 
 static ULong calls;
@@ -17,6 +18,9 @@ ULong calls_made(void) { return calls; }
 
 static UWord greet(Addr first, Addr end, Addr to_stub) {
     stub = to_stub;
+    if (words.is_partial) totals_refuse();
+    if (!has_library) VG_(discard_translations_safely)(0, ~(SizeT)0, "outcomes");
+    has_library = True;
     if (words.counts_library) return KL_VERSION;
     library_first = first;
     library_end = end;

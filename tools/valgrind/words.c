@@ -10,7 +10,8 @@
 
 /* The machine is tools/record's `skl`. */
 all_words words = {
-    .has_counts = True, .threads = ANY_THREAD, .stream = -1, .report = -1, .window = 65536, .most_amount = 255,
+    .has_counts = True, .process = "1", .kinds = ~0UL,
+    .threads = ANY_THREAD, .stream = -1, .report = -1, .window = 65536, .most_amount = 255,
     .l1d = {512, 8, 64}, .l1i = {512, 8, 64}, .l2 = {4096, 4, 64}, .l3 = {131072, 16, 64}, .dtlb = {64, 4, 4096}, .itlb = {128, 8, 4096},
     .mhz = 1000, .predictor_bits = 14, .costs = {8, 38, 200, 20, 16},
 };
@@ -69,7 +70,6 @@ static Bool take_lines(const HChar *word) {
     } else if (VG_STR_CLO(word, "--streams", words.streams)) {
     } else if (VG_INT_CLO(word, "--report", number)) {
         words.report = (Int)number;
-    } else if (VG_STR_CLO(word, "--no-call", words.no_call)) {
     } else return False;
     return True;
 }
@@ -80,11 +80,24 @@ static Bool take_begin(const HChar *word) {
         words.entry = (Addr)address;
     } else if (VG_BHEX_CLO(word, "--from", address, 0, ~0UL)) {
         words.from = (Addr)address;
+    } else if (VG_BOOL_CLO(word, "--from-entry", words.from_entry)) {
     } else if (VG_BOOL_CLO(word, "--stopped", words.is_stopped)) {
     } else if (VG_BOOL_CLO(word, "--keep-random", words.keeps_random)) {
     } else if (VG_XACT_CLO(word, "--threads=any", words.threads, ANY_THREAD)) {
     } else if (VG_XACT_CLO(word, "--threads=first", words.threads, FIRST_THREAD)) {
     } else if (VG_XACT_CLO(word, "--threads=one", words.threads, ONE_THREAD)) {
+    } else return False;
+    return True;
+}
+
+/* Words of whole processes. */
+static Bool take_totals(const HChar *word) {
+    Long kinds;
+    if (VG_STR_CLO(word, "--process-totals", words.totals)) {
+    } else if (VG_STR_CLO(word, "--process", words.process)) {
+    } else if (VG_BHEX_CLO(word, "--kinds", kinds, 0, ~0UL)) {
+        words.kinds = (ULong)kinds;
+        words.is_partial = True;
     } else return False;
     return True;
 }
@@ -95,19 +108,33 @@ Bool words_take(const HChar *word) {
     if (VG_BOOL_CLO(word, "--counts", words.has_counts)) return True;
     if (VG_BOOL_CLO(word, "--further", words.has_further)) return True;
     if (VG_BOOL_CLO(word, "--totals", words.shows_totals)) return True;
-    if (VG_BINT_CLO(word, "--predictor", bits, 1, MOST_PREDICTOR_BITS)) {
+    if (VG_BINT_CLO(word, "--predictor", bits, 0, MOST_PREDICTOR_BITS)) {
         words.predictor_bits = (Int)bits;
         return True;
     }
     if (VG_BOOL_CLO(word, "--library", words.counts_library)) return True;
     if (VG_BINT_CLO(word, "--mhz", words.mhz, 1, MOST_MHZ)) return True;
-    return take_shape(word) || take_costs(word) || take_lines(word) || take_begin(word);
+    return take_shape(word) || take_costs(word) || take_lines(word) || take_begin(word) ||
+           take_totals(word);
+}
+
+/* A kind that is counted by others has those too. */
+void words_end(void) {
+    static const UChar needs[][2] = {
+        {KL_CYCLES, KL_STALLS},
+        {KL_TAKEN, LEFT_TAKEN}, {KL_TAKEN, STAYED_NOT_TAKEN}, {KL_TAKEN, STAYED_TAKEN},
+        {KL_NOT_TAKEN, LEFT_NOT_TAKEN}, {KL_NOT_TAKEN, STAYED_TAKEN},
+        {KL_NOT_TAKEN, STAYED_NOT_TAKEN},
+    };
+    words.kinds |= 1UL << KL_INSTRUCTIONS;
+    for (UInt i = 0; i < sizeof needs / sizeof *needs; i++)
+        if (counts_kind(needs[i][0])) words.kinds |= 1UL << needs[i][1];
 }
 
 void words_print(void) {
     VG_(printf)("    --model=yes|no           caches, translation buffers and a predictor [no]\n"
                 "    --l1d=LINES,WAYS,BYTES   a part of that machine, or none; also --l1i, --l2, --l3, --dtlb, --itlb\n"
-                "    --predictor=N            2^N counters of branches [14]\n"
+                "    --predictor=N            2^N counters of branches, 0 for none [14]\n"
                 "    --costs=L2,L3,MEMORY,PAGE,BRANCH   cycles beside the one of each instruction [8,38,200,20,16]\n"
                 "    --counts=yes|no          counts of all kinds, for requests [yes]\n"
                 "    --further=yes|no         also what only other tools count [no]\n"
@@ -121,11 +148,25 @@ void words_print(void) {
                 "    --stream=DESCRIPTOR      where the lines of all threads go; without it requests fetch them\n"
                 "    --streams=FILE           where those of each thread go, with its number for %%t\n"
                 "    --report=DESCRIPTOR      where totals and what ended the run are told\n"
-                "    --no-call=PROCESS:LINE   the line is printed at the end of this process if it made no call of the library\n"
+                "    --process-totals=FOLDER  where each process writes its counts when it ends\n"
+                "    --process=NAME           the process in that folder [1]\n"
+                "    --kinds=0xMASK           the kinds that count, if no library asks [all]\n"
                 "    --mhz=N                  the rate of the clock, for threads that sleep [1000]\n"
                 "    --entry=0xADDRESS        the entry of the program's file: nothing before it is counted, nor changes the machine\n"
                 "    --from=0xADDRESS         the same for a function of the program's file\n"
+                "    --from-entry=yes|no      the same for the entry of each program [no]\n"
                 "    --keep-random=yes|no     the program has the system's random bytes, which are other ones each time [no]\n"
                 "    --stopped=yes|no         threads count only when a request starts them [no]\n"
                 "    --threads=any|first|one  which threads count; with one a second thread ends the run [any]\n");
+}
+
+void words_print_kinds(void) {
+    static const HChar *const names[CODES] = {
+        [RECORDED_CODES] = "recorded", [SKYLAKE_CODES] = "skl"
+    };
+    for (UInt codes = 0; codes < CODES; codes++)
+        for (UInt kind = 0; kind < LINE_KINDS; kind++)
+            for (UInt i = 0; i < MOST_HEADS && kind_heads[codes][kind][i]; i++)
+                VG_(printf)("    kind %u %s %s %s\n", kind, kind_names[kind], names[codes],
+                            kind_heads[codes][kind][i]);
 }

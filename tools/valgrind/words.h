@@ -13,6 +13,7 @@ enum { SERVED_BY_L2, SERVED_BY_L3, SERVED_BY_MEMORY, PAGE_MISSED, BRANCH_ERRED, 
 
 typedef struct {
     Bool has_model;   /* caches, translation buffers and the predictor */
+    Bool is_partial;  /* only some kinds count: no library can be served */
     Bool has_counts;  /* of all kinds, for requests */
     Bool has_further; /* kinds that only other tools count */
     Bool has_tape;    /* lines of a stream */
@@ -25,18 +26,29 @@ typedef struct {
     Int stream, report;     /* descriptors, or -1 */
     const HChar *streams;   /* a file for each thread, whose number stands for %t */
     Addr entry, from;       /* addresses in the program's file: its entry, and where counting begins, or 0 */
-    const HChar *no_call;   /* PROCESS:LINE */
+    Bool from_entry;        /* counting begins at the entry of each program */
+    const HChar *totals, *process; /* the folder of totals, and the process (totals.h) */
+    ULong kinds;            /* a bit for each that counts */
     Long mhz, window;       /* window: instructions */
     Int most_amount;        /* of a line */
     line_codes codes;       /* of the lines */
     shape l1d, l1i, l2, l3, dtlb, itlb;
-    Int predictor_bits;
+    Int predictor_bits; /* 0: there is none */
     ULong costs[COSTS];
 } all_words;
 
 extern all_words words;
 
 Bool words_take(const HChar *word);
+
+/* All words are taken. */
+void words_end(void);
+
+static inline Bool counts_kind(UInt kind) { return words.kinds >> kind & 1; }
+static inline Bool has_predictor(void) { return words.has_model && words.predictor_bits; }
 void words_print(void);
+
+/* Each kind with its number, its name, the codes, and the head of a line. */
+void words_print_kinds(void);
 
 #endif

@@ -9,7 +9,7 @@ use crate::call_name::CallName;
 /// the thread's stream; these three are this project's own.
 ///
 /// `E` is an event: its text in a script, and then what the text was looked up as.
-#[derive(Clone, Copy, Debug, PartialEq, Eq, Drop)]
+#[derive(Clone, Copy, Drop)]
 pub enum Call<E> {
     // tools/make_calls: begin variants
     Register,
@@ -40,7 +40,7 @@ pub enum Call<E> {
 /// of a code (PAPI_event_code_to_name(3)), or the registered threads (PAPI_list_threads(3)).
 ///
 /// `E` is an event of a call, `C` what is known of an event whose code is asked for, and `N` what is known of a code whose name is.
-#[derive(Clone, Copy, Debug, PartialEq, Eq, Drop)]
+#[derive(Clone, Copy, Drop)]
 pub enum Asked<E, C, N> {
     Call(Call<E>),
     CodeOf(C),

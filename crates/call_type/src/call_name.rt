@@ -3,7 +3,7 @@ ghost use Rattle.std.specs.Prelude.{◌≡◌};
 ghost use Rattle.call_type.specs.CallNames.{word_of};
 
 /// The name of a call of a script, in the order of the table of calls: docs/FORMATS.md.
-#[derive(Clone, Copy, Debug, PartialEq, Eq)]
+#[derive(Clone, Copy)]
 pub enum CallName {
     // tools/make_calls: begin names
     Register,

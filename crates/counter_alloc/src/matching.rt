@@ -23,7 +23,7 @@ pub struct Blame {
 /// A list of at most 32 sets of allowed counters, bit k for counter k, with a counter of its own for each.
 ///
 /// A place is the position of a native event in the list. No call takes memory.
-#[derive(Debug, Drop)]
+#[derive(Drop)]
 pub struct Matching {
     counters: u32,
     count: usize,

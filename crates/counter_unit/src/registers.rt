@@ -2,7 +2,7 @@
 use papi_base::{Domain, Native};
 
 /// A counter that is programmed.
-#[derive(Clone, Copy, Debug, PartialEq, Eq)]
+#[derive(Clone, Copy)]
 pub struct Register {
     pub native: Native,
     pub domain: Domain,

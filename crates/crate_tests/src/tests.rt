@@ -1,8 +1,6 @@
 //! One or two modules for each crate that is tested, and what several of them use: drawn numbers, native events and several calls.
 mod calls;
-mod counter_alloc_tests;
 mod draws;
-mod event_sets_tests;
 mod natives;
 mod overflow_dispatch_tests;
 mod papi_base_tests;
@@ -12,12 +10,9 @@ mod postfix_rules_tests;
 mod preset_csv_tests;
 mod profil_hist_tests;
 mod region_report_tests;
-mod reply_lists_tests;
 mod script_lines_tests;
 mod soak_input_tests;
 mod stream_reader_tests;
-mod table_rows_tests;
 mod thread_registry_tasks_tests;
-mod thread_registry_tests;
 mod thread_session_tests;
 mod user_events_tests;

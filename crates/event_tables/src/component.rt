@@ -3,7 +3,7 @@
 use std::collections::HashMap;
 
 /// A counter: its name, its width from 16 to 48 bits, and whether it is a fixed one.
-#[derive(Debug, Drop)]
+#[derive(Drop)]
 pub struct Counter {
     pub name: String,
     pub width: u8,
@@ -11,7 +11,7 @@ pub struct Counter {
 }
 
 /// The modifiers that a umask fixes: edge, inversion and, unless it is 0, the least amount.
-#[derive(Clone, Copy, Debug, PartialEq, Eq)]
+#[derive(Clone, Copy)]
 pub struct FixedMods {
     pub edge: bool,
     pub invert: bool,
@@ -22,7 +22,7 @@ pub struct FixedMods {
 ///
 /// `counters` has, as bits, those of the event's counters that can count it, if not all of them can. `fixed` has the
 /// modifiers that it fixes, if it fixes one.
-#[derive(Debug, Drop)]
+#[derive(Drop)]
 pub struct UmaskRow {
     pub name: String,
     pub bits: u8,
@@ -34,7 +34,7 @@ pub struct UmaskRow {
 }
 
 /// An event: its select code, the counters that can count it as bits, its description, and its umasks.
-#[derive(Debug, Drop)]
+#[derive(Drop)]
 pub struct EventRow {
     pub name: String,
     pub select: u8,
@@ -44,7 +44,7 @@ pub struct EventRow {
 }
 
 /// A component: its name, the name of its pmu in libpfm4's sense, its counters and its events.
-#[derive(Debug, Drop)]
+#[derive(Drop)]
 pub struct Component {
     pub name: String,
     pub pmu: String,

@@ -17,7 +17,7 @@ use std::marker::Model;
 ///
 /// Contracts see them as the list of components, with their names as texts. The limits hold, names have the form of
 /// a name and are not repeated, each event has a counter, and no event has two default umasks.
-#[derive(Debug, Drop)]
+#[derive(Drop)]
 pub struct Tables {
     components: Vec<Component>,
 }

@@ -13,7 +13,7 @@ use papi_base::{Natives, Places};
 use std::marker::Model;
 
 /// Neighbouring places of a list: the first one, and the one behind the last.
-#[derive(Clone, Copy, Debug, PartialEq, Eq)]
+#[derive(Clone, Copy)]
 pub struct Span {
     pub first: u32,
     pub end: u32,

@@ -7,7 +7,7 @@ use papi_base::Code;
 use thiserror::Error;
 
 /// Why a text names no native event, after the error codes of pfm_get_os_event_encoding(3).
-#[derive(Clone, Copy, Debug, PartialEq, Eq, Error)]
+#[derive(Clone, Copy, Debug, Error)]
 pub enum NameFault {
     /// No component that agrees with the prefixes has the event.
     #[error("no such event")]

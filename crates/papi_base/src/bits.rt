@@ -6,7 +6,7 @@ ghost use Rattle.papi_base.specs.Weight.{share};
 use bitflags::{Flag, Flags, bitflag_items};
 
 /// Whose occurrences count, as bits: USER 1 and KERNEL 2, PAPI_set_domain(3).
-#[derive(Clone, Copy, PartialEq, Eq, Debug)]
+#[derive(Clone, Copy)]
 pub struct Domain(pub u8);
 
 bitflag_items! {
@@ -39,7 +39,7 @@ impl Flags for Domain {
 }
 
 /// The bits of an event set's state, PAPI_state(3).
-#[derive(Clone, Copy, PartialEq, Eq, Debug)]
+#[derive(Clone, Copy)]
 pub struct StateBits(pub u8);
 
 bitflag_items! {

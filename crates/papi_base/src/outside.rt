@@ -6,7 +6,7 @@ ghost use Rattle.papi_base.specs.Outside.{Tape, Gives, Rose, CountsFaults, tape_
 use thiserror::Error;
 
 /// How a tape ends after its last byte.
-#[derive(Clone, Copy, Debug, PartialEq, Eq)]
+#[derive(Clone, Copy)]
 pub enum Ending {
     /// The end of the file.
     End,
@@ -15,7 +15,7 @@ pub enum Ending {
 }
 
 /// A read that failed.
-#[derive(Clone, Copy, Debug, PartialEq, Eq, Error)]
+#[derive(Clone, Copy, Debug, Error)]
 #[error("the read failed")]
 pub struct Failed;
 

@@ -6,7 +6,7 @@ use std::fmt;
 use std::marker::Model;
 
 /// A text of its own, which contracts see as the list of its bytes.
-#[derive(Debug, Drop)]
+#[derive(Drop)]
 pub struct Text {
     text: String,
 }

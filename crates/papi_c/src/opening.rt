@@ -13,7 +13,7 @@ use std::alloc::{AllocError, Global};
 use user_events::{Extended, read_extended};
 
 /// Why a library is not opened: a file is faulty, or memory is refused.
-#[derive(Clone, Copy, Debug, PartialEq, Eq)]
+#[derive(Clone, Copy)]
 pub(crate) enum OpenFault {
     Faulty,
     Memory,

@@ -16,7 +16,7 @@ use std::alloc::{AllocError, Global};
 
 /// A part of what PAPI_get_event_info(3) tells: the name; the description; and of an available preset or user event the derived type,
 /// the formula and the native events by their places.
-#[derive(Clone, Copy, Debug, PartialEq, Eq)]
+#[derive(Clone, Copy)]
 pub enum InfoPart {
     Name,
     Description,

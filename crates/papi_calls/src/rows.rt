@@ -12,7 +12,7 @@ use postfix_rules::PresetBook;
 use std::alloc::{AllocError, Global};
 
 /// A part of what the rows of a component say: its name, the name of its pmu, and that of the counter in a place from 0.
-#[derive(Clone, Copy, Debug, PartialEq, Eq)]
+#[derive(Clone, Copy)]
 pub enum ComponentPart {
     Name,
     Pmu,
@@ -21,7 +21,7 @@ pub enum ComponentPart {
 
 /// A part of what the rows of a native event say: its name `PMU::EVENT` and its description, and of the umask in a place from 0 the name
 /// `PMU::EVENT:UMASK` and the description.
-#[derive(Clone, Copy, Debug, PartialEq, Eq)]
+#[derive(Clone, Copy)]
 pub enum NativePart {
     Name,
     Description,

@@ -13,7 +13,7 @@ use script_lines::{ScriptCause, cause_text as line_text};
 use std::alloc::{AllocError, AllocFailed, Global};
 
 /// What is wrong with a row or a line of a file.
-#[derive(Clone, Copy, Debug)]
+#[derive(Clone, Copy)]
 pub enum FileCause {
     /// A row of a unit file.
     Row(RowCause),
@@ -52,7 +52,7 @@ impl FileCause {
 }
 
 /// Why a call is refused.
-#[derive(Debug, Drop)]
+#[derive(Drop)]
 pub enum Refusal {
     /// The words are outside every tool's form.
     BadWords,
@@ -104,7 +104,7 @@ impl Refusal {
 }
 
 /// The end of a call before its output: a refusal, or memory ran out.
-#[derive(Debug, Drop)]
+#[derive(Drop)]
 pub enum Stop {
     Refused(Refusal),
     Memory,

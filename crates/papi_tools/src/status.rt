@@ -3,7 +3,7 @@ ghost use Rattle.std.specs.Prelude.{◌≡◌};
 ghost use Rattle.papi_tools.specs.Status.{number_of, status_of};
 
 /// How a call ends. The number of a status is the program's exit status.
-#[derive(Clone, Copy, Debug, PartialEq, Eq)]
+#[derive(Clone, Copy)]
 pub enum Status {
     /// The whole output was written.
     Whole,
@@ -34,7 +34,7 @@ pub fn status_number(status: Status) -> u8
 }
 
 /// How a call ends that writes all that it has to say.
-#[derive(Clone, Copy, Debug, PartialEq, Eq)]
+#[derive(Clone, Copy)]
 pub enum Outcome {
     /// The output is the tool's text.
     Whole,

@@ -13,7 +13,7 @@ use crate::weighing::plain_weight;
 use papi_base::{Domain, Native, Occ};
 
 /// The positions of a list of occurrences over which a set counted, and the domain in which it counted.
-#[derive(Clone, Copy, Debug)]
+#[derive(Clone, Copy)]
 pub struct Window {
     pub from: usize,
     pub to: usize,
@@ -21,7 +21,7 @@ pub struct Window {
 }
 
 /// How a native event takes turns: the length of a slice in ticks, the number of groups, and the event's group.
-#[derive(Clone, Copy, Debug)]
+#[derive(Clone, Copy)]
 pub struct Turn {
     pub slice: u64,
     pub groups: u64,

@@ -11,7 +11,7 @@ use std::alloc::{AllocError, Global};
 use stream_reader::{Judgement, LineStart};
 
 /// A bad line: its number, from 1, and why it is bad.
-#[derive(Clone, Copy, Debug, PartialEq, Eq)]
+#[derive(Clone, Copy)]
 pub struct BadLine {
     pub line: u64,
     pub cause: LineCause,

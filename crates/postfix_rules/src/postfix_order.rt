@@ -4,7 +4,7 @@ use std::alloc::{AllocError, Global};
 use std::marker::Model;
 
 /// The operators that wait for what is on their right, inside one pair of parentheses: one of `+ -`, and one of `* /`.
-#[derive(Clone, Copy, Debug, PartialEq, Eq)]
+#[derive(Clone, Copy)]
 pub struct Waiting {
     pub sum: Option<Operator>,
     pub product: Option<Operator>,

@@ -5,7 +5,7 @@ ghost use Rattle.preset_csv.specs.Kinds as Kinds;
 
 /// How the value of a preset that is computed comes from its native events: the count itself, their sum, the first less
 /// the others, or a formula. Source: papi_events.csv.
-#[derive(Clone, Copy, Debug, PartialEq, Eq)]
+#[derive(Clone, Copy)]
 pub enum Kind {
     NotDerived,
     Add,
@@ -14,7 +14,7 @@ pub enum Kind {
 }
 
 /// The derived types of a preset file. Those after `Postfix` are not computed. Source: papi_events.csv.
-#[derive(Clone, Copy, Debug, PartialEq, Eq)]
+#[derive(Clone, Copy)]
 pub enum DerivedType {
     NotDerived,
     Add,

@@ -16,7 +16,7 @@ use std::marker::Model;
 ///
 /// Contracts see them as a list, with their names as texts. The limits hold, names have the form of a name and are
 /// not repeated, each range ends at 2^64 or below, and no address is in two ranges.
-#[derive(Debug, Drop)]
+#[derive(Drop)]
 pub struct Map {
     ranges: Vec<MapRange>,
 }

@@ -5,7 +5,7 @@ ghost use Rattle.profil_hist.specs.Ranges as Ranges;
 ghost use Rattle.profil_hist.specs.Views.{range_text};
 
 /// A range of program counters: buckets of `width` addresses each, from `start` on.
-#[derive(Debug, Drop)]
+#[derive(Drop)]
 pub struct MapRange {
     pub name: String,
     pub start: u64,

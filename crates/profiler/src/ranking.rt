@@ -11,7 +11,7 @@ use std::collections::BTreeMap;
 pub const MOST: usize = 10;
 
 /// An address, and how many passings it has.
-#[derive(Clone, Copy, Debug, PartialEq, Eq)]
+#[derive(Clone, Copy)]
 pub struct Hot {
     pub pc: u64,
     pub passings: u64,

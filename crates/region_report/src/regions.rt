@@ -21,7 +21,7 @@ pub const MOST_LINES: usize = 90_000;
 pub const MOST_OPEN_REGIONS: usize = 32;
 
 /// A call of a line of a region script.
-#[derive(Debug, Drop)]
+#[derive(Drop)]
 pub enum RegionCall {
     /// Begins a region.
     Begin { name: Text },
@@ -35,7 +35,7 @@ pub enum RegionCall {
 
 /// A line that asks a call of a thread, with its number in the script, from 1. The counters are read at each line that begins, reads or
 /// ends a region; at one that reads or ends a region `begun` is the number of the reading, from 0, at which that region began.
-#[derive(Debug, Drop)]
+#[derive(Drop)]
 pub struct RegionLine {
     pub line: u64,
     pub thread: u32,
@@ -66,7 +66,7 @@ fn after_reading(readings: usize, line: &RegionLine) -> usize
 
 /// The call lines of a region script in order, which contracts see as their list. There are at most [`MOST_LINES`], each of a thread
 /// below `THREADS`.
-#[derive(Debug, Drop)]
+#[derive(Drop)]
 pub struct Regions {
     lines: Vec<RegionLine>,
 }

@@ -4,14 +4,14 @@ use papi_base::{Code, EventRef};
 use session_model::Ran;
 
 /// A part of a list: its first place, and how many there are.
-#[derive(Clone, Copy, Debug, PartialEq, Eq)]
+#[derive(Clone, Copy)]
 pub struct Span {
     pub from: usize,
     pub len: u32,
 }
 
 /// What is kept of a reply's body. What it has several of is a part of the list of all.
-#[derive(Clone, Copy, Debug, PartialEq, Eq)]
+#[derive(Clone, Copy)]
 pub enum Kept {
     Nothing,
     SetNumber(u32),
@@ -28,7 +28,7 @@ pub enum Kept {
 }
 
 /// The head of a reply.
-#[derive(Clone, Copy, Debug, PartialEq, Eq)]
+#[derive(Clone, Copy)]
 pub struct Head {
     pub code: Code,
     pub kept: Kept,

@@ -5,7 +5,7 @@ use crate::Named;
 pub type Asked = call_type::Asked<Named, Named, u32>;
 
 /// A line of a script: the thread and what it asks for.
-#[derive(Clone, Copy, Debug, PartialEq, Eq)]
+#[derive(Clone, Copy)]
 pub struct Line {
     pub thread: u32,
     pub asked: Asked,

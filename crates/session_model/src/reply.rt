@@ -10,7 +10,7 @@ pub struct Assigned {
 }
 
 /// How a run ended: it may go on, or the stream ended by a bad line, or by a read that failed.
-#[derive(Clone, Copy, Debug, PartialEq, Eq)]
+#[derive(Clone, Copy, Debug)]
 pub enum Ended {
     Going,
     Bad { line: u64, cause: LineCause },
@@ -18,7 +18,7 @@ pub enum Ended {
 }
 
 /// What a run did: how many occurrences it consumed, how many thresholds were passed, and how it ended.
-#[derive(Clone, Copy, Debug, PartialEq, Eq)]
+#[derive(Clone, Copy, Debug)]
 pub struct Ran {
     pub consumed: u32,
     pub notes: u64,

@@ -5,7 +5,7 @@ ghost use Rattle.soak_input.specs.Generator.{draw_at, next};
 use std::marker::Model;
 
 /// A linear congruential generator, that of Knuth's MMIX. Contracts see its number.
-#[derive(Clone, Copy, Debug)]
+#[derive(Clone, Copy)]
 pub struct Generator {
     number: u64,
 }

@@ -6,7 +6,7 @@ use crate::Generator;
 
 /// An occurrence of the first component: select code and umask of an event, the mode, an amount from 1 to 255, and the program
 /// counter.
-#[derive(Clone, Copy, Debug, PartialEq, Eq)]
+#[derive(Clone, Copy)]
 pub struct Occurrence {
     pub select: u8,
     pub umask: u8,

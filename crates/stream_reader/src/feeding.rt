@@ -17,7 +17,7 @@ use papi_base::{Ending, LineCause, MemSource};
 use std::alloc::{AllocError, Global};
 
 /// What came of a text that was to follow what is left of a stream. Nothing is changed unless it follows.
-#[derive(Clone, Copy, Debug, PartialEq, Eq)]
+#[derive(Clone, Copy, Debug)]
 pub enum Fed {
     /// It follows.
     Whole,

@@ -18,7 +18,7 @@ use thread_core::Taken;
 pub const MOST_PASSED: usize = 32;
 
 /// What a run into a place did, and whether it stopped early since an occurrence more might not have found room.
-#[derive(Clone, Copy, Debug, PartialEq, Eq)]
+#[derive(Clone, Copy)]
 pub struct Filled {
     pub ran: Ran,
     pub full: bool,

@@ -3,7 +3,7 @@
 use papi_base::{Native, ShortList};
 
 /// A native event on its counter, with the threshold that an event of the set has on it, or 0 for none.
-#[derive(Clone, Copy, Debug, Default, PartialEq, Eq)]
+#[derive(Clone, Copy, Default)]
 pub struct Pin {
     pub native: Native,
     pub counter: u32,

@@ -1,4 +1,4 @@
-//! Tests of the tools that need code of their own. The rows that need none stand in `worked_rows`.
+//! Tests of the tools that need code of their own. The rows that need none stand in `examples/rows`.
 #![tactic(auto)]
 
 #[cfg(test)]

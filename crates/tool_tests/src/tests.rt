@@ -2,6 +2,6 @@
 mod counting_sink;
 mod each_tool;
 mod lab;
+mod notes;
 mod refused_memory;
-mod soak_sum;
 mod waiting_sources;

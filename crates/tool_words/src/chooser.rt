@@ -18,7 +18,7 @@ use papi_base::{MOST_SET_EVENTS, Text};
 use std::alloc::Global;
 
 /// Which events are listed.
-#[derive(Clone, Copy, Debug, PartialEq, Eq)]
+#[derive(Clone, Copy)]
 pub enum EventKind {
     /// `NATIVE`.
     Native,

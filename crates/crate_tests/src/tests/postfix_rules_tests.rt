@@ -1,24 +1,8 @@
-//! Formulas that are read, worked and written with memory at hand.
+//! Formulas that are read and written with memory at hand.
 
-use postfix_rules::{Formula, eval, read_infix, read_postfix, write_formula};
+use postfix_rules::{Formula, read_infix, read_postfix, write_formula};
 use std::alloc::{AllocError, Global};
 use std::test::Fail;
-
-// Texts over two native events, their counts, and the value.
-const VALUES: &str = "N0|N1|-|2|*| -> 7 3 8\n\
-N0|0|/| -> 7 3 0\n\
-\x20N0 |N1|-|\t2|*\t -> 7 3 8\n\
-N1| -> 7 3 3\n\
-N1| \t -> 7 3 3\n\
-N00|007|+ -> 7 3 14\n\
-N0|2|/| -> -7 3 -3\n\
-N0|N1|/| -> 7 -2 -3\n\
-N0|N1|/| -> -9223372036854775808 -1 -9223372036854775808\n\
-N0|1|+| -> 9223372036854775807 0 -9223372036854775808\n\
-N0|1|-| -> -9223372036854775808 0 9223372036854775807\n\
-N0|2|*| -> 9223372036854775807 0 -2\n\
-9223372036854775807| -> 0 0 9223372036854775807\n\
-1|1|1|1|1|1|1|1|1|1|1|1|1|1|1|1|+|+|+|+|+|+|+|+|+|+|+|+|+|+|+| -> 0 0 16";
 
 // Texts over two native events, and how the formula is written, or the place and the cause of the first fault.
 const POSTFIX: &str = "N0|N1|-|2|*| -> N0|N1|-|2|*|\n\
@@ -101,27 +85,6 @@ N0|N1 -> token 2: unknown token\n\
 (((((((((((((((((N0))))))))))))))))) -> token 17: too deep\n\
 1 ( -> token 2: operands left\n\
 1+(1+(1+(1+(1+(1+(1+(1+(1+(1+(1+(1+(1+(1+(1+(1+(1)))))))))))))))) -> token 66: too deep";
-
-fn numbers_in(text: &str) -> Option<[i64; 3]> {
-    let (first, rest) = text.split_once(' ')?;
-    let (second, third) = rest.split_once(' ')?;
-    Some([
-        first.parse::<i64>().ok()?,
-        second.parse::<i64>().ok()?,
-        third.parse::<i64>().ok()?,
-    ])
-}
-
-#[test]
-fn values(rt: HostRuntime) -> Result<(), Fail> {
-    for line in VALUES.lines() {
-        let (text, numbers) = line.split_once(" -> ").expect(&rt, "a text");
-        let [first, second, value] = numbers_in(numbers).expect(&rt, "three numbers");
-        let formula = read_postfix(rt.alloc(), text, 2)?;
-        assert_eq!(rt; eval(&formula, &[first, second]), value, "{text}");
-    }
-    Ok(())
-}
 
 fn told_of_postfix(alloc: Global, text: &str) -> Result<String, AllocError> {
     match read_postfix(alloc, text, 2) {

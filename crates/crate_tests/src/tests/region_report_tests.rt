@@ -1,4 +1,4 @@
-//! A region script with returns and empty lines, which no row of `worked_rows` can have.
+//! A region script with returns and empty lines, which no worked row can have.
 
 use region_report::read_regions;
 use std::fmt::Write;

@@ -1,4 +1,4 @@
-//! A script with returns and empty lines, which no row of `worked_rows` can have.
+//! A script with returns and empty lines, which no worked row can have.
 use call_type::CallName;
 use script_lines::read_script;
 use std::test::Fail;

@@ -29,21 +29,6 @@ impl Task<u32> for Adding {
     }
 }
 
-#[test]
-fn each_task_is_worked_once_by_any_number_of_workers(rt: HostRuntime) -> Result<(), AllocError> {
-    for workers in [1, 2, 5, 64] {
-        let mut tasks: Vec<Adding> = Vec::new(rt.alloc());
-        for number in [0, 1, 2, 3, 4, 5, 6] {
-            tasks.push(Adding { number })?;
-        }
-        work_tasks(&rt, &10u32, &mut tasks, workers);
-        for (task, want) in tasks.iter().zip(10..17u32) {
-            assert_eq!(rt; task.number, want, "{workers} workers");
-        }
-    }
-    Ok(())
-}
-
 /// Whether four tasks were at work at one time.
 #[derive(Drop)]
 struct Meeting {

@@ -11,7 +11,7 @@ use std::marker::Model;
 
 /// What a line is answered with: the reply at this place of its thread's list; the code of an event, or the code with which its
 /// text was refused; the event of a code, if there is one; or the registered threads.
-#[derive(Clone, Copy, Debug, PartialEq, Eq)]
+#[derive(Clone, Copy)]
 pub enum Answer {
     Made(usize),
     CodeOf(Result<u32, Code>),
@@ -20,7 +20,7 @@ pub enum Answer {
 }
 
 /// A line without its reply: the number of its script line from 1, its thread, the name of its call, and what it is answered with.
-#[derive(Clone, Copy, Debug, PartialEq, Eq)]
+#[derive(Clone, Copy)]
 pub struct AnsweredLine {
     pub line: u64,
     pub thread: u32,

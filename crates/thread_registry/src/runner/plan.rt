@@ -10,7 +10,7 @@ use std::marker::Model;
 pub type Planned = Asked<Named, Result<u32, Code>, Option<EventRef>>;
 
 /// A line of a plan: the number of its script line from 1, its thread below [`papi_base::THREADS`], and what it asks for.
-#[derive(Clone, Copy, Debug, PartialEq, Eq)]
+#[derive(Clone, Copy)]
 pub struct PlanLine {
     pub number: u64,
     pub thread: u32,

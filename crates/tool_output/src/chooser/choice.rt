@@ -15,7 +15,7 @@ use std::alloc::{AllocError, Global};
 use std::fmt::Write;
 
 /// What is said of given events.
-#[derive(Debug, Drop)]
+#[derive(Drop)]
 pub struct Choice {
     /// A line for each candidate that the set takes, and their number; or the first given text that was refused, and how.
     pub text: Bytes,

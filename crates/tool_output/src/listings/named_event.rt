@@ -1,7 +1,7 @@
 //! The answer to a name.
 
 /// What is printed of the event of a name, and whether there is such an event.
-#[derive(Debug, Drop)]
+#[derive(Drop)]
 pub struct NamedEvent {
     pub text: String,
     pub known: bool,

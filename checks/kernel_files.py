@@ -1,0 +1,106 @@
+"""Kernels in assembly with what each counts, as it was counted by hand (checks/kernels.d)."""
+
+from __future__ import annotations
+
+import re
+from collections import Counter
+from dataclasses import dataclass, field
+from pathlib import Path
+
+from here import CHECKS
+
+from parts.command import Fault
+
+FOLDER = CHECKS / "kernels.d"
+TURNS = 1000
+FLOATING = [f"{form} {width}" for width in (128, 256) for form in ("double", "single")]
+NAMES = {
+    "instruction": "instructions", "load": "loads", "store": "stores", "taken": "conditional_taken",
+    "not taken": "conditional_not_taken", "jump": "jumps", "call": "calls", "return": "returns",
+    "scalar double": "scalar_double", "scalar single": "scalar_single", "x87": "x87",
+    **{name: name.replace(" ", "_") for name in FLOATING},
+}
+MISSES = {
+    "load miss": "l1d_load_misses", "store miss": "l1d_store_misses",
+    "load page miss": "dtlb_load_misses", "store page miss": "dtlb_store_misses",
+}
+
+
+@dataclass
+class Kernel:
+    """Lines that run so many times, what stands around them, and what all of it counts."""
+
+    name: str
+    body: list[str]
+    each: Counter[str]
+    knows_misses: bool
+    turns: int = TURNS
+    first: list[str] = field(default_factory=list)
+    last: list[str] = field(default_factory=list)
+    after: list[str] = field(default_factory=list)
+    whole: Counter[str] = field(default_factory=Counter)
+
+    def wanted(self) -> dict[str, int]:
+        """Of each kind that is known: the body's, those of the loop around it, and of what runs once. Without the return."""
+        total = Counter({kind: count * self.turns for kind, count in self.each.items()}) + self.whole
+        total["instructions"] += 1 + len(self.first) + 2 * self.turns + len(self.last)
+        total["conditional_taken"] += self.turns - 1
+        total["conditional_not_taken"] += 1
+        known = [*NAMES.values(), *(MISSES.values() if self.knows_misses else ())]
+        return {kind: total[kind] for kind in known}
+
+    def text(self) -> str:
+        """For GNU's assembler."""
+        lines = [f".p2align 6\n.globl kernel_{self.name}\n.type kernel_{self.name}, @function\nkernel_{self.name}:",
+                 f"mov ${self.turns},%r15d", *self.first, "9:", *self.body, "dec %r15d", "jnz 9b", *self.last, "ret", *self.after,
+                 f".size kernel_{self.name}, .-kernel_{self.name}"]
+        return "\n".join(lines) + "\n"
+
+
+def read_counts(text: str, place: str) -> Counter[str]:
+    counts: Counter[str] = Counter()
+    for part in text.split(","):
+        found = re.fullmatch(r"(\d+) (.+)", part.strip())
+        name = re.sub(r"(?<=miss)es$|(?<!s)s$", "", found[2]) if found else ""
+        kind = {**NAMES, **MISSES}.get(name)
+        if not found or kind is None:
+            raise Fault(f"{place}: no count: {part.strip()}")
+        counts[kind] += int(found[1])
+    return counts
+
+
+def read_kernels(path: Path) -> list[Kernel]:
+    """`NAME: LINE ; LINE = COUNTS` of one turn, and below it, indented, what else there is of it."""
+    kernels: list[Kernel] = []
+    for number, line in enumerate(path.read_text(encoding="ascii").splitlines(), 1):
+        place = f"{path.name}:{number}"
+        word, _, rest = line.strip().partition(" ")
+        if not word or word == "#":
+            continue
+        if not line.startswith(" "):
+            body, _, counts = rest.rpartition(" = ")
+            kernels.append(Kernel(word.removesuffix(":"), body.split(" ; "), read_counts(counts, place), path.stem == "lines"))
+        elif word == "turns":
+            kernels[-1].turns = int(rest)
+        elif word == "whole":
+            kernels[-1].whole += read_counts(rest, place)
+        elif word in ("first", "last", "after"):
+            getattr(kernels[-1], word).append(rest)
+        else:
+            raise Fault(f"{place}: {word}: no such word")
+    return kernels
+
+
+def all_kernels() -> list[Kernel]:
+    kernels = [kernel for path in sorted(FOLDER.glob("*.kernels")) for kernel in read_kernels(path)]
+    twice = [name for name, count in Counter(kernel.name for kernel in kernels).items() if count > 1]
+    if twice:
+        raise Fault(f"{FOLDER}: two kernels are named {twice[0]}")
+    return kernels
+
+
+def assembly(kernels: list[Kernel]) -> str:
+    """All kernels, an empty one, and the table that the harness has of them."""
+    table = "".join(f'.quad 7f, kernel_{kernel.name}\n.pushsection .rodata\n7: .asciz "{kernel.name}"\n.popsection\n' for kernel in kernels)
+    return (".text\n" + "".join(kernel.text() for kernel in kernels) + ".globl kernel_empty\nkernel_empty: ret\n"
+            + ".data\n.p2align 4\n.globl kernels\nkernels:\n" + table + ".quad 0, 0\n.section .note.GNU-stack,\"\",@progbits\n")

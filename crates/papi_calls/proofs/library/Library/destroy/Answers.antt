@@ -1,0 +1,20 @@
+use Rattle.std.proofs.Common.{refl}
+use Rattle.call_type.specs.declared.call.Call.TheVariants as call
+use Rattle.session_model.specs.Replies.{plain}
+use Rattle.papi_calls.proofs.Calling.{may_call, still_whole, made}
+use Rattle.papi_calls.proofs.library.Library.destroy.Goals as goal
+
+pub destroy-requires : goal.destroy-requires
+destroy-requires c =
+    let q = c.self.inside in
+    record { ready = may_call q.catalog q.codes c.book.result.now q.session c.book.ensures.book c.self.invariant }
+
+pub invariant_of-self : goal.invariant_of-self
+invariant_of-self c =
+    let q = c.self.inside in
+    still_whole q.catalog q.codes c.book.result.now q.session c.destroy.new.self (call.Destroy c.args.set) (plain c.destroy.result) c.book.ensures.book c.destroy.ensures c.self.invariant
+
+pub returns : goal.returns
+returns c =
+    let q = c.self.inside in
+    record { made = made q.catalog q.codes c.book.result.now q.session c.destroy.new.self (call.Destroy c.args.set) (plain c.destroy.result) c.book.ensures.book c.destroy.ensures _ c.self.view_is refl }

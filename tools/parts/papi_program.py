@@ -1,0 +1,36 @@
+"""The program papi, which a tool asks what an event counts: by bin/ of the repository, or as
+bin/install has it."""
+
+from __future__ import annotations
+
+import subprocess
+from pathlib import Path
+
+from parts.command import Fault
+from parts.compiler import run_group
+
+FOLDER = Path(__file__).resolve().parent.parent.parent / "bin"  # an installation has links there
+UNPROVED = "papi: the proved program"
+
+
+def prepare_program() -> None:
+    """In a repository it is compiled, if it is not there: that takes a minute or two, and says
+    so."""
+    script = FOLDER / "papi"
+    if (
+        script.exists()
+        and subprocess.run([str(script), "--compile"], stdin=subprocess.DEVNULL).returncode
+    ):
+        raise Fault("the program papi, which says what an event counts, is not there")
+
+
+def ask_program(tool: str, *words: str) -> subprocess.CompletedProcess[str]:
+    """What a tool of the program answers to these words."""
+    try:
+        done = run_group([str(FOLDER / tool), *words])
+    except OSError as error:
+        raise Fault(f"{FOLDER / tool}: {error.strerror}") from None
+    done.stderr = "".join(
+        line for line in done.stderr.splitlines(keepends=True) if not line.startswith(UNPROVED)
+    )
+    return done

@@ -1,0 +1,218 @@
+"""Counting a whole program: which events are asked for, what they need of the tool, and what is
+told when the program has ended."""
+
+from __future__ import annotations
+
+import sys
+from contextlib import suppress
+from collections import Counter
+from dataclasses import dataclass, replace
+from pathlib import Path
+from typing import IO, Mapping, Sequence
+
+from parts.command import Fault, own_name
+from parts.codes import codes_of
+from parts.count_files import as_csv, as_json
+from parts.count_table import shown, table
+from parts.event_sums import Files, Sum, sums_of, values_of
+from parts.kinds import Kind, kinds_with, mask_of, reduced
+from parts.machine import Machine
+from parts.papi_program import prepare_program
+from parts.processes import Process, numbered, read_processes
+from parts.whole_counts import ProcessCounts, ThreadCounts, WholeCounts, summed
+
+USUAL = (
+    "PAPI_TOT_INS",
+    "PAPI_TOT_CYC",
+    "PAPI_LD_INS",
+    "PAPI_SR_INS",
+    "PAPI_L1_DCM",
+    "PAPI_L3_TCM",
+    "PAPI_BR_INS",
+    "PAPI_BR_MSP",
+    "PAPI_FP_OPS",
+)
+
+
+@dataclass(frozen=True)
+class Whole:
+    """What is asked of a count of the whole program."""
+
+    is_beside: bool = False  # also beside the calls that the program makes
+    events: str | None = None  # with commas between them, or the usual ones
+    children: bool = False
+    table: str | None = None  # files, standard error without one
+    json: str | None = None
+    csv: str | None = None
+
+    def is_asked(self) -> bool:
+        """Whether somebody wants it, whatever the program does."""
+        return self != Whole(is_beside=self.is_beside)
+
+
+class Outputs:
+    """The files for what is counted. They are opened before the program runs, so that one that
+    can't be written is known then."""
+
+    def __init__(self, whole: Whole):
+        self.files: dict[str, IO[str]] = {}
+        for kind, name in (("table", whole.table), ("json", whole.json), ("csv", whole.csv)):
+            if name is not None:
+                try:
+                    self.files[kind] = open(
+                        name, "w", encoding="utf-8", errors="surrogateescape", newline=""
+                    )
+                except OSError as error:
+                    raise Fault(f"{name}: {error.strerror}") from None
+
+    def write(self, kind: str, text: str) -> None:
+        file = self.files[kind]
+        try:
+            file.write(text)
+            file.close()
+        except OSError as error:
+            with suppress(OSError):
+                file.close()
+            raise Fault(f"{file.name}: {error.strerror}") from None
+
+
+@dataclass(frozen=True)
+class Plan:
+    """The events and what one occurrence of each kind adds to them, asked of the program once."""
+
+    files: Mapping[str, str]
+    kinds: Sequence[Kind]
+    sums: Sequence[Sum]
+
+    def needed(self) -> set[str]:
+        return {name for each in self.sums for name in each.kinds()}
+
+    def words(self, machine: Machine) -> list[str]:
+        """Of the tool, for a run that counts nothing else."""
+        return [
+            f"--kinds={mask_of(list(self.kinds), self.needed()):#x}",
+            *reduced(machine, self.needed()).tool_words(),
+        ]
+
+
+def _files(named: Mapping[str, str]) -> Files:
+    return Files(named["KISTALUB_UNIT"], named["KISTALUB_PRESETS"], named["KISTALUB_CPU"])
+
+
+def plan(whole: Whole, named: Mapping[str, str]) -> Plan:
+    """A fault says which event can't be counted."""
+    prepare_program()
+    files = _files(named)
+    kinds = kinds_with(codes_of(files.unit))
+    names = USUAL if whole.events is None else whole.events.split(",")
+    sums = sums_of(files, names, kinds, needs_all=whole.events is not None)
+    if not sums:
+        raise Fault(
+            f"{files.presets} has none of the usual presets for {files.cpu}: --events names others"
+        )
+    return Plan(named, kinds, sums)
+
+
+def _renumbered(process: Process) -> dict[int, Counter[str]]:
+    return dict(enumerate(process.threads.values(), start=1))
+
+
+def counts_of(
+    plan: Plan, processes: Sequence[Process], command: Sequence[str], status: int
+) -> WholeCounts:
+    """All values at once, since the program is asked for those of rules."""
+    scopes: list[Counter[str]] = []
+    for process in processes:
+        scopes += [process.total(), *process.threads.values()]
+    whole = sum((process.total() for process in processes), Counter[str]())
+    *values, total = values_of(_files(plan.files), plan.sums, [*scopes, whole])
+    numbers, found, rest = numbered(list(processes)), list[ProcessCounts](), iter(values)
+    for process in processes:
+        of_process = next(rest)
+        threads = tuple(ThreadCounts(number, next(rest)) for number in _renumbered(process))
+        found.append(
+            ProcessCounts(
+                numbers[process.way],
+                numbers.get(process.way[:-1], 0),
+                process.program,
+                of_process,
+                threads,
+            )
+        )
+    return WholeCounts(
+        tuple(command), tuple(each.name for each in plan.sums), total, tuple(found), 0, status
+    )
+
+
+def _what_is_missing(program: str, first: Process | None, status: int) -> str | None:
+    if first is None:
+        return f"{program} can't be run under valgrind"
+    if not first.has_ended and status < 0:
+        return f"{program} was killed (signal {-status}): what it did is not known"
+    if not first.has_ended:
+        last = shown(first.program)
+        return f"{program} became a program that can't be counted, after {last}"
+    if not first.total():
+        return f"{program} ended before its entry: nothing was counted"
+    return None
+
+
+@dataclass(frozen=True)
+class Run:
+    """A run that has ended."""
+
+    command: tuple[str, ...]
+    folder: Path
+    status: int
+
+
+def tell(
+    whole: Whole,
+    run: Run,
+    planned: Plan | None,
+    outputs: Outputs,
+    named: Mapping[str, str],
+    machine: Machine,
+) -> None:
+    """Writes the counts. A fault says what could not be done of what was asked."""
+    program, processes = run.command[0], read_processes(run.folder)
+    if any(process.is_refused for process in processes):
+        raise Fault(f"{program} makes calls of PAPI: --whole counts it as a whole beside them")
+    missing = _what_is_missing(
+        program, processes[0] if processes and processes[0].way == (1,) else None, run.status
+    )
+    if any(process.calls for process in processes) and not whole.is_beside:
+        if whole.is_asked():
+            raise Fault(
+                f"{program} makes calls of PAPI, which have had its counts: --whole counts it as a "
+                "whole beside them"
+            )
+        return
+    if missing and not any(process.total() for process in processes[:1]):
+        raise Fault(missing)
+    shown_ones = processes if whole.children else processes[:1]
+    counts = replace(
+        counts_of(planned or plan(whole, named), shown_ones, run.command, run.status),
+        uncounted_children=len(processes) - len(shown_ones),
+    )
+    _write(counts, outputs, named, machine)
+    if missing:
+        raise Fault(missing)
+
+
+def _write(
+    counts: WholeCounts, outputs: Outputs, named: Mapping[str, str], machine: Machine
+) -> None:
+    text = table(counts)
+    if counts.uncounted_children:
+        number = counts.uncounted_children
+        processes = "1 child process" if number == 1 else f"{number:,} child processes"
+        text += f"{own_name()}: {processes} not counted (--children counts them too)\n"
+    if "table" in outputs.files:
+        outputs.write("table", text)
+    else:
+        sys.stderr.write(text)
+    if "json" in outputs.files:
+        outputs.write("json", as_json(counts, named, machine))
+    if "csv" in outputs.files:
+        outputs.write("csv", as_csv(counts))

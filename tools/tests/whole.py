@@ -1,0 +1,53 @@
+"""Programs without a library, whose instructions are counted by hand, for tests that count them as
+a whole."""
+
+from __future__ import annotations
+
+import json
+import shutil
+import subprocess
+import unittest
+from pathlib import Path
+from typing import Any
+
+from tests.support import PROGRAM, TOOLS, InFolder
+
+EXIT = "mov $60, %eax\n mov ${}, %edi\n syscall\n"  # 3 instructions
+LOOP = "mov ${}, %ecx\n 1: dec %ecx\n jnz 1b\n"  # 1 and twice so many
+
+needs_papi = unittest.skipUnless(
+    PROGRAM.exists() or shutil.which("rt"), "crates/papi/out/papi is not built"
+)
+
+
+class Whole(InFolder):
+    def assemble(self, name: str, text: str) -> str:
+        """A static program of these instructions."""
+        source, program = self.write(f"{name}.s", f".globl _start\n_start:\n{text}"), str(
+            self.folder / name
+        )
+        subprocess.run(
+            ["cc", "-nostdlib", "-static", "-Wl,--build-id=none", "-o", program, source], check=True
+        )
+        return program
+
+    def compile(self, name: str, text: str, *words: str, compiler: str = "cc") -> str:
+        suffix = ".cc" if compiler.endswith("++") else ".c"
+        source, program = self.write(name + suffix, text), str(self.folder / name)
+        subprocess.run([compiler, "-O1", "-o", program, source, "-lpthread", *words], check=True)
+        return program
+
+    def count(self, *words: str) -> subprocess.CompletedProcess[str]:
+        return subprocess.run(
+            [str(TOOLS / "count"), *words], capture_output=True, text=True, cwd=self.folder
+        )
+
+    def counted(self, *words: str, status: int = 0) -> Any:
+        """The JSON of a count that has nothing to say but its table."""
+        to = self.folder / "counts.json"
+        done = self.count("--json", str(to), "-o", str(self.folder / "table"), *words)
+        self.assertEqual((done.stdout, done.stderr, done.returncode), ("", "", status))
+        return json.loads(to.read_text(encoding="utf-8"))
+
+    def table(self) -> str:
+        return Path(self.folder / "table").read_text(encoding="utf-8")
