@@ -55,6 +55,9 @@ PARTS = {
     "hints": Part(_all("bin/hints/**/*.py"), "test_hints test_hints_running test_report.Rules test_causes", is_pure=False),
     "scripts": Part(("bin/papi", "bin/unproved.sh", *_all("bin/hints/*.sh")), _SCRIPTS, is_pure=False),
     "report": Part(("tools/report", *_all("tools/parts/report/*.py", but=("alone.py", "matrix.py"))), "test_report test_report_examples test_report_page test_report_files test_conflict", is_pure=False),
+    "unproved": Part(
+        ("tools/compile_unproved", *_all("tools/parts/unproved/*.py")),
+        "test_unproved test_compile_unproved test_built_library", is_pure=False),
     "record": Part(("tools/record", *_parts("codes", "recording", "recording_words", "machine", "valgrind")), "test_record test_tool test_count", is_pure=False),
     "count": Part(("tools/count", *_parts("counting", "ranks")), "test_count", is_pure=False),
     "count_whole": Part(_parts("attended", "count_files", "count_table", "elf_file", "event_sums", "kinds", "papi_program", "processes", "whole", "whole_counts", "whole_words"),

@@ -244,13 +244,22 @@ def wrong(run: Run, words: list[Word]) -> str:
     return "" if status == run.status else f"{ended(run)} with standard error {shown(run.err)}"
 
 
+def usual_program() -> Path:
+    """The proved program if it is built, or else the same code unproved, which is compiled if it is not kept."""
+    if os.access(PROGRAM, os.X_OK):
+        return PROGRAM
+    found = subprocess.run([str(ROOT / "bin/papi"), "--compile"], stdin=subprocess.DEVNULL, stdout=subprocess.PIPE, text=True)
+    return PROGRAM if found.returncode else Path(found.stdout.rstrip("\n"))
+
+
 def check_program(name: str, about: str, work: Callable[[argparse.Namespace, Program], Tally], *options: tuple) -> None:
     """Reads the words of a check, and does it over the program that they name."""
     parser = argparse.ArgumentParser(prog=name, description=about)
-    parser.add_argument("program", metavar="PROGRAM", nargs="?", type=Path, default=PROGRAM, help="the built program (crates/papi/out/papi)")
+    parser.add_argument("program", metavar="PROGRAM", nargs="?", type=Path, help="the program (crates/papi/out/papi, or the same code unproved)")
     for option, how in options:
         parser.add_argument(option, **how)
     words = parser.parse_args()
+    words.program = words.program or usual_program()
     if not os.access(words.program, os.X_OK):
         print(f"{name}: {words.program} is not built (cd crates/papi && rt run -- papi_soak 1)")
         print("0 passed, 1 failed")

@@ -5,7 +5,7 @@ from __future__ import annotations
 import os
 import signal
 import subprocess
-from typing import Sequence
+from typing import Any, Sequence
 
 from parts.command import Fault, uninterrupted
 
@@ -17,13 +17,13 @@ def compiler() -> list[str]:
     return os.environ.get("CC", "").split() or ["cc"]
 
 
-def run_group(command: Sequence[str], text: str = "") -> subprocess.CompletedProcess[str]:
-    """A command with this standard input, and what it says. What it has started ends with it, whatever ends it."""
+def run_group(command: Sequence[str], text: str = "", **how: Any) -> subprocess.CompletedProcess[str]:
+    """A command with this standard input, and what it says. What it has started ends with it, whatever ends it. `how` goes to subprocess.Popen."""
     child: subprocess.Popen[str] | None = None
     try:
         with uninterrupted():
             child = subprocess.Popen(command, stdin=subprocess.PIPE, stdout=subprocess.PIPE, stderr=subprocess.PIPE, text=True, encoding="utf-8", errors="replace",
-                                     start_new_session=True)
+                                     start_new_session=True, **how)
         out, err = child.communicate(text)
     except BaseException:
         if child is not None:

@@ -7,7 +7,7 @@ import mmap
 import os
 import shutil
 import sys
-from dataclasses import dataclass
+from dataclasses import dataclass, replace
 from functools import partial
 from pathlib import Path
 from typing import NoReturn
@@ -23,6 +23,7 @@ from parts.whole import Outputs, Plan, Run, Whole, plan, tell
 FOLDER = Path(__file__).resolve().parent.parent.parent
 EXAMPLES = FOLDER / "examples"
 INSTALLED_LIBRARY = FOLDER / "library"  # a link of bin/install
+BUILD = FOLDER / "c/build"
 OWN_FUNCTION = b"kistalub_go"  # PAPI's library has none of this name
 PAPI = "libpapi.so"
 MOST_MHZ = 1_000_000
@@ -49,6 +50,7 @@ def count(counting: Counting, whole: Whole) -> NoReturn:
     program = shutil.which(counting.program)
     if program is None:
         raise Fault(f"{counting.program}: no such program")
+    counting = replace(counting, library=_library(counting, program))
     environment = _environment(counting, program, _changes(counting))
     makes_calls = _check_library(program, environment)
     if makes_calls and whole.is_asked() and not whole.is_beside:
@@ -142,6 +144,25 @@ def named_files(unit: str | None, presets: str | None, cpu: str | None) -> dict[
     return {name: given[name] or os.environ.get(name) or usual[name] for name in usual}
 
 
+def _library(counting: Counting, program: str) -> str | None:
+    """The folder of the library: what is named, that of bin/install, or for a program that is
+    linked with PAPI and finds no library of ours one that is built here."""
+    if counting.library or INSTALLED_LIBRARY.is_dir():
+        return counting.library or str(INSTALLED_LIBRARY)
+    if not BUILD.is_file() or not _lacks_library(program):
+        return None
+    from parts.unproved.built_library import built_library  # bin/install leaves it out
+
+    return str(built_library())
+
+
+def _lacks_library(program: str) -> bool:
+    found = list(libraries_of(Path(program), os.environ))
+    is_linked = any(name.startswith(PAPI) for each in found for name in each.needed)
+    papi = [each.path for each in found if each.path.name.startswith(PAPI)]
+    return is_linked and not any(_has_text(path, OWN_FUNCTION) for path in papi)
+
+
 def _changes(counting: Counting) -> dict[str, str]:
     """What the library is told. Names are found before the program runs, so that none is looked for
     while it counts."""
@@ -150,9 +171,8 @@ def _changes(counting: Counting) -> dict[str, str]:
         "KISTALUB_CACHES": counting.machine.caches(),
         "LD_BIND_NOW": "1",
     }
-    library = counting.library or (INSTALLED_LIBRARY if INSTALLED_LIBRARY.is_dir() else None)
-    if library:
-        paths = [valgrind.of_one_length(str(Path(library).resolve())), *filter(None, [os.environ.get("LD_LIBRARY_PATH")])]
+    if counting.library:
+        paths = [valgrind.of_one_length(str(Path(counting.library).resolve())), *filter(None, [os.environ.get("LD_LIBRARY_PATH")])]
         changes["LD_LIBRARY_PATH"] = ":".join(paths)
     return changes
 

@@ -30,8 +30,9 @@ the output comes. With the word `--quiet` a script adds nothing, neither hints n
 With the word `--strict` a script ends with 1 in place of 0 if a call of a script was refused, or if a native event counted 0 because no line of the streams has its code. Nothing that is written
 changes. It needs Python. To know which calls of its script were refused, `papi_profil --strict` runs the script once more.
 
-As long as no proved program is built, the scripts run the same code unproved. The first command compiles it, in a minute or two, and later ones answer at once. It is kept in
-`${XDG_CACHE_HOME:-~/.cache}/kistalub`, under a checksum of the code and of the toolchain. With `KISTALUB_COMPILE=0` it is not compiled: a command that needs it then ends with 127.
+As long as no proved program is built, the scripts run the same code unproved. The first command compiles it, in a minute or two, and later ones answer at once. `bin/papi --compile` only
+does this, and prints where the program is that the scripts run. It is kept in `${XDG_CACHE_HOME:-~/.cache}/kistalub`, under a checksum of the code and of the toolchain
+(`tools/compile_unproved`). With `KISTALUB_COMPILE=0` it is not compiled: a command that needs it then ends with 127.
 
 """
 STATUSES = """## Statuses

@@ -152,7 +152,7 @@ class Answers(unittest.TestCase):
     def test_what_is_said_of_the_program_itself_is_no_answer(self) -> None:
         of_build = [f"{OF_BUILD}is not built: running the same code unproved (build it)"]
         told = (ROOT / "bin/unproved.sh").read_text(encoding="utf-8")
-        self.assertIn(f'echo "{OF_BUILD}is not built: running', told)
+        self.assertIn(f"speaker='{OF_BUILD}is not built'", told)
         self.assertEqual(Answer(2, [], [*of_build, "papi: no such file: s"]).said(), ["papi: no such file: s"])
 
 

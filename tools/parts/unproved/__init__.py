@@ -1,0 +1,1 @@
+"""Compiling the program and the library for C without a proof."""
