@@ -24,6 +24,7 @@ typedef struct {
     Bool is_nobodys;     /* what runs here is not counted */
     cache l1d, l1i, l2, dtlb, itlb;
     predictor branches;
+    Addr repeated[2];    /* the lines, from 1 on, at which the two operands of an instruction that repeats itself are; 0 for none */
 
     UInt number; /* the first thread is 0, and each gets the next number when it begins */
     Bool is_used, is_in_library, is_stopped;

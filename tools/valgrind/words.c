@@ -112,6 +112,8 @@ Bool words_take(const HChar *word) {
         words.predictor_bits = (Int)bits;
         return True;
     }
+    if (VG_XACT_CLO(word, "--rep=turns", words.has_rep_lines, False)) return True;
+    if (VG_XACT_CLO(word, "--rep=lines", words.has_rep_lines, True)) return True;
     if (VG_BOOL_CLO(word, "--library", words.counts_library)) return True;
     if (VG_BINT_CLO(word, "--mhz", words.mhz, 1, MOST_MHZ)) return True;
     return take_shape(word) || take_costs(word) || take_lines(word) || take_begin(word) ||
@@ -137,7 +139,8 @@ void words_print(void) {
                 "    --predictor=N            2^N counters of branches, 0 for none [14]\n"
                 "    --costs=L2,L3,MEMORY,PAGE,BRANCH   cycles beside the one of each instruction [8,38,200,20,16]\n"
                 "    --counts=yes|no          counts of all kinds, for requests [yes]\n"
-                "    --further=yes|no         also what only other tools count [no]\n"
+                "    --further=yes|no         also what only other tools count, and accesses as they see them [no]\n"
+                "    --rep=turns|lines        what an instruction with rep accesses: something in each turn, or each line once [turns]\n"
                 "    --totals=yes|no          print the counts of each thread when it ends [no]\n"
                 "    --library=yes|no         count what the library does too, to measure it [no]\n"
                 "    --tape=yes|no            gather lines of a stream [no]\n"
