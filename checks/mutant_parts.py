@@ -62,7 +62,7 @@ PARTS = {
     "record": Part(("tools/record", *_parts("codes", "recording", "recording_words", "machine", "valgrind")), "test_record test_tool test_count", is_pure=False),
     "count": Part(("tools/count", *_parts("counting", "ranks")), "test_count", is_pure=False),
     "count_whole": Part(_parts("attended", "count_files", "count_table", "elf_file", "event_sums", "kinds", "papi_program", "processes", "whole", "whole_counts", "whole_words"),
-                        "test_count_whole test_elf_file test_count", is_pure=False),
+                        "test_count_whole test_count_functions test_elf_file test_count", is_pure=False),
     "c": Part(_all("c/*.c"), command=("examples/c/check",), is_pure=False),
 }
 

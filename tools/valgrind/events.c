@@ -13,6 +13,7 @@
 #include "code.h"
 #include "core.h"
 #include "decode.h"
+#include "functions.h"
 #include "output.h"
 #include "requests.h"
 #include "sleep.h"
@@ -61,6 +62,7 @@ void program_is_loaded(void) {
     Addr entry = read_stack((const UWord *)VG_(get_SP)(tid)), base = words.entry ? entry - words.entry : 0;
     streams_begin(base);
     if (words.from_entry) counting_from = entry;
+    functions_begin(entry);
     if (words.from) counting_from = words.from + base;
 }
 

@@ -8,6 +8,7 @@
 
 #include "decode.h"
 #include "events.h"
+#include "frames.h"
 #include "operands.h"
 #include "slots.h"
 #include "thresholds.h"
@@ -85,6 +86,7 @@ static void instruction_begins(code *c, Addr pc, UInt size) {
     c->loads = 0;
     begins_here(c);
     if (!c->is_counted) return;
+    code_enters_function(c);
     code_begins(c);
     code_checks_behind(c, pc);
     c->class = class_of_bytes((const UChar *)pc, size);
@@ -202,6 +204,7 @@ static void block_ends(code *c, const IRSB *in) {
     if (in->jumpkind == Ijk_NoDecode) code_call(c, NULL, "instruction_is_refused", instruction_is_refused, mkIRExprVec_1(code_word(next)));
     if (c->is_counted) code_leaves_line_open(c, NULL, c->class & REPEATS && is_known && next == c->pc);
     code_flushes(c);
+    code_leaves_functions(c, in);
     code_checks_beginning(c);
     if (in->jumpkind == Ijk_Yield) ends_turn(c);
     keep_shares(c);

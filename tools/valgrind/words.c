@@ -4,6 +4,8 @@
 #include "pub_tool_libcprint.h"
 #include "pub_tool_options.h"
 
+#include "functions.h"
+
 #define MOST_WINDOW (1LL << 40)
 #define MOST_MHZ 1000000
 #define NO_LIMIT 0x3fffffff
@@ -93,7 +95,10 @@ static Bool take_begin(const HChar *word) {
 /* Words of whole processes. */
 static Bool take_totals(const HChar *word) {
     Long kinds;
+    const HChar *name;
     if (VG_STR_CLO(word, "--process-totals", words.totals)) {
+    } else if (VG_STR_CLO(word, "--function", name)) {
+        functions_take(name);
     } else if (VG_STR_CLO(word, "--process", words.process)) {
     } else if (VG_BHEX_CLO(word, "--kinds", kinds, 0, ~0UL)) {
         words.kinds = (ULong)kinds;
@@ -153,6 +158,7 @@ void words_print(void) {
                 "    --report=DESCRIPTOR      where totals and what ended the run are told\n"
                 "    --process-totals=FOLDER  where each process writes its counts when it ends\n"
                 "    --process=NAME           the process in that folder [1]\n"
+                "    --function=NAME          totals have calls of this one alone; may be repeated\n"
                 "    --kinds=0xMASK           the kinds that count, if no library asks [all]\n"
                 "    --mhz=N                  the rate of the clock, for threads that sleep [1000]\n"
                 "    --entry=0xADDRESS        the entry of the program's file: nothing before it is counted, nor changes the machine\n"
