@@ -63,6 +63,7 @@ PARTS = {
     "count": Part(("tools/count", *_parts("counting", "ranks")), "test_count", is_pure=False),
     "count_whole": Part(_parts("attended", "count_files", "count_table", "elf_file", "event_sums", "kinds", "papi_program", "processes", "whole", "whole_counts", "whole_words"),
                         "test_count_whole test_count_functions test_elf_file test_count", is_pure=False),
+    "compare": Part(("tools/compare", *_all("tools/parts/compare/*.py")), "test_compare test_compare_texts"),
     "c": Part(_all("c/*.c"), command=("examples/c/check",), is_pure=False),
 }
 
