@@ -155,6 +155,12 @@ class Functions(Comparing):
             },
         )
 
+    def test_the_same_functions_are_left_out_with_what_they_call_too(self) -> None:
+        base = self.profile(function("main", 1, 3), function("f", 2, 2))
+        done = self.compare(base, base, "--by", "inclusive")
+        wanted = ["2 functions with the same counts left out", "2 counts, and no limit"]
+        self.assertEqual(done.stdout.splitlines()[1:], wanted)
+
     def test_without_a_profile(self) -> None:
         self.assert_apart(
             counts(A=1),
@@ -163,6 +169,8 @@ class Functions(Comparing):
             "--by",
             "function",
         )
+        empty = {**counts(A=1), "functions": []}
+        self.assert_apart(empty, empty, "base.json: functions: there is none")
 
 
 class Regions(Comparing):

@@ -36,8 +36,8 @@ class Apart(Comparing):
             )
         self.assert_apart(
             base,
-            counts(A=1, B=2),
-            "base.json and new.json have other events: only in one of them: B",
+            counts(A=1, C=3, B=2),
+            "base.json and new.json have other events: only in one of them: B, C",
         )
         self.assert_apart(
             base,
@@ -190,6 +190,16 @@ class Texts(Comparing):
             rank([region(self.HOSTILE, 0, **{self.HOSTILE: "1"})], **{self.HOSTILE: "delta"}),
             f"new.json: region {plain}: in over 64 others, or in itself",
         )
+
+    def test_code_of_markdown_may_have_its_marks_at_its_ends(self) -> None:
+        for name, cell in (("`a", "`` `a ``"), ("a``", "``` a`` ```"), ("a", "`a`")):
+            one = counts(**{name: 1})
+            row = self.compare(one, one, "--markdown").stdout.splitlines()[2]
+            self.assertTrue(row.startswith(f"| {cell} | 1 |"), row)
+
+    def test_csv_names_each_limit(self) -> None:
+        done = self.compare(counts(A=1), counts(A=9), "--csv", "--limit", "2%", "--limit", "+3")
+        self.assertEqual(done.stdout.splitlines()[1], ",A,1,9,8,800.00,2% +3")
 
     def test_csv_has_notes_on_standard_error(self) -> None:
         base = {**counts(A=1), "command": ["./other"]}

@@ -35,14 +35,14 @@ class Row:
 
 @dataclass(frozen=True)
 class Comparison:
-    """All rows by name and event, what is told beside them, and how many limits there are."""
+    """All rows by name and event, what is told beside them, and whether there are limits."""
 
     base: str
     new: str
     level: str
     rows: list[Row]
     notes: list[str]
-    limits: int
+    has_limits: bool
 
     @property
     def over(self) -> int:
@@ -82,7 +82,7 @@ def compare(
         level,
         rows,
         [*_differ(base, new), *_alone(base, new, level)],
-        len(limits),
+        bool(limits),
     )
 
 

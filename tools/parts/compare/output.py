@@ -77,7 +77,7 @@ def _ending(comparison: Comparison, left_out: int) -> list[str]:
     lines = [f"{counted(left_out, 'function')} with the same counts left out"] if left_out else []
     number = counted(len(comparison.rows), "count")
     over = f"{comparison.over:,} over {'its limit' if comparison.over == 1 else 'their limits'}"
-    return [*lines, f"{number}: {over}" if comparison.limits else f"{number}, and no limit"]
+    return [*lines, f"{number}: {over}" if comparison.has_limits else f"{number}, and no limit"]
 
 
 def _short(text: str, longest: int = LONGEST_NAME) -> str:
@@ -172,11 +172,9 @@ def as_json(comparison: Comparison) -> str:
     return json.dumps(made, indent=2) + "\n"
 
 
-def _field(value: object) -> object:
+def _field(text: str) -> str:
     """A text that no sheet takes for a formula, on one line."""
-    if not isinstance(value, str):
-        return value
-    text = plain(value)
+    text = plain(text)
     return f"'{text}" if text.startswith(FORMULA) else text
 
 
