@@ -48,7 +48,7 @@ PARTS = {
                  "test_definitions test_make_calls test_make_presets test_make_tools test_made_files test_regions test_endings.Texts"),
     "package": Part(_parts("package_links"), "test_package_links"),
     "building": Part(("python/building.py",), "test_building", folder="python/tests"),
-    "python": Part(_all("python/kistalub/*.py"), "test_event_sets test_library", folder="python/tests", is_pure=False),
+    "python": Part(_all("python/kistalub/*.py"), "test_event_sets test_forgotten test_library test_pytest_plugin", folder="python/tests", is_pure=False),
     "completions": Part(("completions/candidates", "completions/kistalub.bash"), "test_completions", is_pure=False),
     "install": Part(("bin/install",), "test_install"),
     "make_deb": Part(("tools/make_deb",), "test_make_deb", is_pure=False),

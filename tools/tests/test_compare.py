@@ -10,6 +10,8 @@ from parts.compare.limits import read_limit
 from tests.comparing import HUGE, INS, MISSES, Comparing, counts, function, rank, region
 from tests.support import run_tool
 
+from kistalub import limits  # found once tests.support is imported
+
 
 class Limits(Comparing):
     def over(self, base: int, new: int, *limits: str) -> list[str]:
@@ -91,6 +93,18 @@ class Limits(Comparing):
         self.assert_apart(
             one, one, "a limit of B, which --events leaves out", "--events", "A", "--limit", "B=2%"
         )
+
+
+    def test_the_module_for_python_reads_limits_in_the_same_way(self) -> None:
+        for text in ("2%", "0.5%", "+1000", "+0", "", "2", "-2%", "+2%", "2 %", "1e3%", "٣%"):
+            try:
+                mine = read_limit(text)
+            except Fault:
+                self.assertRaises(ValueError, limits.checked, text)
+                continue
+            for base, new in ((100, 102), (1000, 1006), (0, 1), (7, 1008), (HUGE, HUGE + 1)):
+                passed = limits.is_over(limits.checked(text), base, new)
+                self.assertEqual(passed, mine.is_passed(base, new), (text, base, new))
 
 
 class Functions(Comparing):
