@@ -35,6 +35,8 @@ class Limits(Comparing):
             (0, 0, ["0%"], []),
             (0, 1, ["500%"], ["500%"]),
             (0, 1, ["+1"], []),
+            (-5, -5, ["0%"], []),
+            (-5, -4, ["50%"], ["50%"]),
             (50 * HUGE, 51 * HUGE, ["2%"], []),
             (50 * HUGE, 51 * HUGE + 1, ["2%"], ["2%"]),
             (HUGE, HUGE + 1, ["+0"], ["+0"]),
@@ -93,7 +95,6 @@ class Limits(Comparing):
         self.assert_apart(
             one, one, "a limit of B, which --events leaves out", "--events", "A", "--limit", "B=2%"
         )
-
 
     def test_the_module_for_python_reads_limits_in_the_same_way(self) -> None:
         for text in ("2%", "0.5%", "+1000", "+0", "", "2", "-2%", "+2%", "2 %", "1e3%", "٣%"):

@@ -35,7 +35,7 @@ def read_counts(place: Place) -> Side:
 
 def _counts(place: Place, events: tuple[str, ...]) -> Counts:
     """A count of each event, and of no other one."""
-    found = {name: each.count() for name, each in place.items()}
+    found = {name: each.number() for name, each in place.items()}
     if set(found) != set(events):
         place.fault("not a count of each event")
     return {event: found[event] for event in events}
@@ -51,7 +51,7 @@ def _file(place: Place) -> Trait:
 
 def _ended(place: Place) -> str:
     kind = "signal" if place.has("signal") else "status"
-    return f"{kind} {place.at(kind).count()}"
+    return f"{kind} {place.at(kind).number()}"
 
 
 def _same(place: Place) -> dict[str, Trait]:
@@ -74,7 +74,7 @@ def _may_differ(place: Place) -> dict[str, str]:
         "version of Valgrind": tool.at("valgrind").text(),
         "processes": str(len(processes)),
         "threads": str(threads),
-        "children that are not counted": str(place.at("uncounted_children").count()),
+        "children that are not counted": str(place.at("uncounted_children").number()),
     }
 
 

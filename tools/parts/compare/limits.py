@@ -24,8 +24,8 @@ class Limit:
     more: int
 
     def is_passed(self, base: int, new: int) -> bool:
-        """Whether the new count is too high. Of a base of 0 there are no per cent: any increase
-        passes such a limit then."""
+        """Whether the new count is too high. Of a base of 0 or less there are no per cent:
+        any increase passes such a limit then."""
         if self.percent is None:
             return new - base > self.more
         return new > base if base <= 0 else 100 * (new - base) > self.percent * base

@@ -23,8 +23,8 @@ FIELDS = ("name", "event", "base", "new", "difference", "percent", "over")
 
 
 def percent_of(row: Row) -> str | None:
-    """The difference in per cent of the base, with two digits. There is none of a base of 0, nor
-    where one side has no count."""
+    """The difference in per cent of the base, with two digits. There is none of a base of 0 or
+    less, nor where one side has no count."""
     if row.base is None or row.new is None or row.base <= 0:
         return None
     hundredths = round(Fraction(10_000 * abs(row.difference), row.base))

@@ -56,10 +56,10 @@ class Place:
     def text_or_none(self) -> str | None:
         return None if self.value is None else self.text()
 
-    def count(self) -> int:
-        """A number of occurrences."""
-        if type(self.value) is not int or self.value < 0:
-            self.fault("not a count")
+    def number(self) -> int:
+        """A whole number: the formula of an event may give one below 0."""
+        if type(self.value) is not int:
+            self.fault("not a whole number")
         return self.value
 
 
