@@ -18,8 +18,9 @@ from typing import Any, Callable, Iterator, Optional
 from edit_kit import rattle, rt
 from edit_rounds import Round
 
-ROUND_SECONDS = 1800  # of the check of some functions
-WHOLE_SECONDS = 5400  # of one of a whole crate
+ROUND_SECONDS = 900  # of a processor, that the check of some functions may take
+WHOLE_SECONDS = 2400  # that of a whole crate may take
+PATIENCE = 8  # times as long a check may last, since other work may hold it up
 LOOKS = 0.1  # seconds between two looks at whether a check has ended
 TELLS = 30  # seconds between two lines that say what is being done
 SHARE = 0.55  # of the memory that rt plans for a check of the whole crate
@@ -57,27 +58,33 @@ def run(turn: Round) -> Ended:
         words = [rattle(), "check", *crate.words(["--jobs", "1", *turn.flags()], keeps=False)]
         with open(f"{room}/said", "w+", encoding="utf-8", errors="replace") as said:
             start = time.monotonic()
-            status, used, is_late = _checked(words, room, said, limit)
+            status, used, is_late = checked(words, room, said, limit)
             said.seek(0)
             check = subprocess.CompletedProcess(words, status, said.read())
     processor, memory = used.ru_utime + used.ru_stime, used.ru_maxrss << 10
     return Ended(turn, check, time.monotonic() - start, processor, memory, is_late)
 
 
-def _checked(words: list[str], room: str, said: Any, limit: float) -> tuple[int, Any, bool]:
+def checked(words: list[str], room: str, said: Any, limit: float) -> tuple[int, Any, bool]:
     """The status of a command, what it used, and whether it was killed at its limit."""
     given: dict[str, Any] = {"stdin": subprocess.DEVNULL, "stdout": said}
     child = subprocess.Popen([*rt().rtlib.guarded(), *words], cwd=room, stderr=said, **given)
-    end, is_late = time.monotonic() + limit, False
+    end, is_late = time.monotonic() + PATIENCE * limit, False
     while True:
         number, status, used = os.wait4(child.pid, os.WNOHANG)
         if number:
             child.returncode = os.waitstatus_to_exitcode(status)
             return child.returncode, used, is_late
-        is_late = is_late or time.monotonic() > end
+        is_late = is_late or time.monotonic() > end or _taken(child.pid) > limit
         if is_late or _left.is_set():
             os.kill(child.pid, signal.SIGKILL)
         time.sleep(LOOKS)
+
+
+def _taken(child: int) -> float:
+    """The seconds of a processor that a child has had so far."""
+    fields = Path(f"/proc/{child}/stat").read_text(encoding="utf-8").rpartition(")")[2].split()
+    return sum(map(int, fields[11:13])) / os.sysconf("SC_CLK_TCK")
 
 
 @contextmanager

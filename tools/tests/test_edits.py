@@ -4,13 +4,16 @@ from __future__ import annotations
 
 import re
 import shutil
+import signal
 import subprocess
+import tempfile
 import unittest
 from pathlib import Path
 from types import SimpleNamespace
 
 from edit_kit import class_of, rt
 from edit_rounds import Edit, Round, judge, plan, read
+from edit_running import checked
 from edit_source import Function, functions_of
 from tests.support import ROOT, InFolder
 
@@ -158,10 +161,6 @@ IMPLS = """impl<'a, T: Ord> Pair<'a, T> {
     fn f(&self) {
     }
 }
-impl Pair<'_, Text> {
-    fn g() {
-    }
-}
 impl<C: Fn(u8) -> u8> From<io::Error<u8>> for crate::Fault<C, Text> {
     fn from() {
     }
@@ -171,14 +170,20 @@ impl Drop for Handle {
     }
 }
 mod apart {
+    impl Pair<'_, Text> {
+        fn g() {
+        }
+    }
     impl Handle {
         fn close(&mut self) {
         }
     }
 }
 struct Handle(u8);
+struct Pair<'a, T>(&'a T);
 """
-NAMES = ["Pair::f", "Pair+Text::g", "FaultTextFromError::from", "Handle::drop", "Handle::close"]
+AT_TOP = ["Pair::f", "FaultTextFromError::from", "Handle::drop"]
+NAMES = [*AT_TOP, "apart::Pair+Text::g", "Handle::close"]
 BRACES = """mod a {
     const fn f() -> char
         ensures { (λ x. x) 1 ≡ 1 }
@@ -299,6 +304,20 @@ class Judged(Texts):
         self.assertEqual(self.judged(syntax), ([], ["three"]))
         scope = "src/lib.rt:1:1: error: `x` is not in scope"
         self.assertEqual(self.judged(scope, OWN, REFUSED, "only=2 proved=1"), ([], ["one"]))
+
+
+@needs_rt
+class Bounded(unittest.TestCase):
+    def ended(self, *words: str, limit: float) -> tuple[int, bool]:
+        rt().rtlib.guarded()
+        with tempfile.TemporaryFile() as said:
+            status, _, is_late = checked([*words], "/", said, limit)
+        return status, is_late
+
+    def test_a_check_that_does_not_end_is_killed(self) -> None:
+        for words in (("sh", "-c", "while :; do :; done"), ("sleep", "60")):
+            self.assertEqual(self.ended(*words, limit=0.2), (-signal.SIGKILL, True))
+        self.assertEqual(self.ended("sh", "-c", "exit 3", limit=60), (3, False))
 
 
 if __name__ == "__main__":
