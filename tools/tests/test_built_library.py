@@ -63,7 +63,9 @@ class Build(WithFakeKit):
         self.assertEqual((self.build("built", "nowhere.a"), self.compiled()), ((1, said), 0))
 
     def test_what_can_not_be_compiled(self) -> None:
-        said = "build: the proved library is not built: nothing is compiled with KISTALUB_COMPILE=0\n"
+        said = (
+            "build: the proved library is not built: nothing is compiled with KISTALUB_COMPILE=0\n"
+        )
         self.assertEqual(self.build("built", KISTALUB_COMPILE="0"), (127, said))
 
 
@@ -75,8 +77,13 @@ class BuiltLibrary(WithFakeKit):
 
     def library(self, **variables: str) -> tuple[int, str, str]:
         done = subprocess.run(
-            [sys.executable, "-B", "-c", CALL], capture_output=True, text=True, cwd=self.folder,
-            env={**self.environment, **variables}, timeout=PATIENCE)
+            [sys.executable, "-B", "-c", CALL],
+            capture_output=True,
+            text=True,
+            cwd=self.folder,
+            env={**self.environment, **variables},
+            timeout=PATIENCE,
+        )
         return done.returncode, done.stdout.rstrip("\n"), done.stderr
 
     def built(self) -> int:
@@ -95,20 +102,31 @@ class BuiltLibrary(WithFakeKit):
     def test_it_is_said_once_a_day(self) -> None:
         folder = self.library()[1]
         Path(folder, "said-on").write_text("2026-01-01\n")
-        for said in ("counted with the same code unproved (it is proved by: cd crates/papi_c && rt lib)\n", ""):
+        for said in (
+            "counted with the same code unproved (it is proved by: cd crates/papi_c && rt lib)\n",
+            "",
+        ):
             self.assertEqual(self.library(), (0, folder, said and NOT_PROVED + said))
 
     def test_a_proved_library_takes_its_place(self) -> None:
         unproved = self.library()[1]
         self.write(PROVED, "proved\n")
         status, folder, said = self.library()
-        self.assertEqual((status, said, Path(folder, "libpapi.so.7.0").read_text()), (0, "", "proved\n"))
+        self.assertEqual(
+            (status, said, Path(folder, "libpapi.so.7.0").read_text()), (0, "", "proved\n")
+        )
         self.assertNotEqual(folder, unproved)
 
     def test_a_change_of_what_it_is_made_of(self) -> None:
         self.write(PROVED, "")
         folders = [self.library()[1]]
-        for name in ("c/read.c", "c/calls.h", "include/papi.h", PROVED.removeprefix("checkout/"), "../kit/KIT-ID"):
+        for name in (
+            "c/read.c",
+            "c/calls.h",
+            "include/papi.h",
+            PROVED.removeprefix("checkout/"),
+            "../kit/KIT-ID",
+        ):
             self.write(f"checkout/{name}", "changed\n")
             folders.append(self.library()[1])
         folders += [self.library(CFLAGS="-g")[1], self.library(CC="other")[1]]
@@ -156,12 +174,18 @@ class CountWithout(Counted):
         (self.checkout / "crates/papi_c/out/libpapi_c.a").touch()
         (self.checkout / "c").mkdir()
         build = self.checkout / "c/build"
-        build.write_text(f'#!/bin/sh\necho "$@" >>"{self.folder}/builds"\ncp -P "{self.library}"/* "$1"\n')
+        build.write_text(
+            f'#!/bin/sh\necho "$@" >>"{self.folder}/builds"\ncp -P "{self.library}"/* "$1"\n'
+        )
         build.chmod(0o755)
 
     def counted(self, program: str, **variables: str) -> tuple[int, str, str]:
-        done = subprocess.run([str(self.checkout / "tools/count"), program], capture_output=True, text=True,
-                              env={**os.environ, "XDG_CACHE_HOME": str(self.folder / "cache"), **variables})
+        done = subprocess.run(
+            [str(self.checkout / "tools/count"), program],
+            capture_output=True,
+            text=True,
+            env={**os.environ, "XDG_CACHE_HOME": str(self.folder / "cache"), **variables},
+        )
         return done.returncode, done.stdout, done.stderr
 
     def test_the_library_is_built_when_a_program_is_linked_with_it(self) -> None:
@@ -171,7 +195,9 @@ class CountWithout(Counted):
         self.assertEqual(len((self.folder / "builds").read_text().splitlines()), 1)
 
     def test_it_is_not_built_for_another_program(self) -> None:
-        self.assertEqual(self.counted(self.compile(self.PROGRAM), LD_LIBRARY_PATH=self.library), (0, "1\n", ""))
+        self.assertEqual(
+            self.counted(self.compile(self.PROGRAM), LD_LIBRARY_PATH=self.library), (0, "1\n", "")
+        )
         inside = self.compile(self.PROGRAM, f"{self.library}/libkistalub.a")
         self.assertEqual(self.counted(inside), (0, "1\n", ""))
         self.assertEqual(self.counted("true")[0], 0)

@@ -49,8 +49,13 @@ def _unproved_archive() -> Path:
     child: subprocess.Popen[str] | None = None
     try:
         with uninterrupted():
-            child = subprocess.Popen(words, stdin=subprocess.DEVNULL, stdout=subprocess.PIPE,
-                                     text=True, preexec_fn=ends_with_parent())
+            child = subprocess.Popen(
+                words,
+                stdin=subprocess.DEVNULL,
+                stdout=subprocess.PIPE,
+                text=True,
+                preexec_fn=ends_with_parent(),
+            )
         path = child.communicate()[0].rstrip("\n")
     finally:
         if child is not None:
@@ -90,6 +95,9 @@ def _say_once_a_day(folder: Path) -> None:
         said_on = folder / SAID_ON
         if said_on.is_file() and said_on.read_text(encoding="ascii") == today:
             return
-        print(f"{own_name()}: the proved library is not built: counted with the same code unproved "
-              f"(it is proved by: {LIBRARY.proved_by})", file=sys.stderr)
+        print(
+            f"{own_name()}: the proved library is not built: counted with the same code unproved "
+            f"(it is proved by: {LIBRARY.proved_by})",
+            file=sys.stderr,
+        )
         said_on.write_text(today, encoding="ascii")

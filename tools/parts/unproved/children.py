@@ -50,8 +50,9 @@ def run(words: Sequence[str], folder: Path, cwd: Path) -> str:
     temporary.mkdir(exist_ok=True)
     environment = {**os.environ, "TMPDIR": str(temporary)}
     try:
-        done = run_group(words, cwd=cwd, env=environment,
-                         preexec_fn=ends_with_parent(signal.SIGKILL))
+        done = run_group(
+            words, cwd=cwd, env=environment, preexec_fn=ends_with_parent(signal.SIGKILL)
+        )
     except OSError as error:
         raise Fault(f"{words[0]}: {error.strerror}") from None
     said = (done.stdout + done.stderr).strip()
@@ -76,8 +77,13 @@ def removed_folder(prefix: Path) -> Iterator[Path]:
         with uninterrupted():
             folder = tempfile.mkdtemp(prefix=prefix.name, dir=prefix.parent)
             guard = subprocess.Popen(
-                ["/bin/sh", "-c", REMOVES, "guard", folder], stdin=subprocess.PIPE, cwd="/",
-                stdout=subprocess.DEVNULL, stderr=subprocess.DEVNULL, start_new_session=True)
+                ["/bin/sh", "-c", REMOVES, "guard", folder],
+                stdin=subprocess.PIPE,
+                cwd="/",
+                stdout=subprocess.DEVNULL,
+                stderr=subprocess.DEVNULL,
+                start_new_session=True,
+            )
         yield Path(folder)
     finally:
         if folder:

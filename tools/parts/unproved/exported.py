@@ -12,14 +12,22 @@ from parts.unproved.sources import CRATES, LIBRARY, Sources
 
 SOURCE = f"crates/{LIBRARY.crate}/src/"
 FUNCTION = re.compile(
-    r'#\[unsafe\(no_mangle\)\]\s*pub extern "C" fn (\w+)\((.*?)\)\s*(->)?', re.DOTALL)
+    r'#\[unsafe\(no_mangle\)\]\s*pub extern "C" fn (\w+)\((.*?)\)\s*(->)?', re.DOTALL
+)
 STATIC = re.compile(rb"^(\w+) staticlib *:", re.MULTILINE)
 # A value of each type that a parameter has. Nothing is ever run, so any will do, but the compiler
 # has to take it for one that may be.
 VALUES = {
-    "Global": "alloc", "&mut Handle": "&mut handle", "u32": "which", "u64": "which as u64",
-    "&[u8]": "&text", "&mut [u8]": "&mut bytes", "&mut [u32]": "&mut words",
-    "&mut [i64]": "&mut values", "&mut u32": "&mut word", "&mut StreamFault": "&mut fault",
+    "Global": "alloc",
+    "&mut Handle": "&mut handle",
+    "u32": "which",
+    "u64": "which as u64",
+    "&[u8]": "&text",
+    "&mut [u8]": "&mut bytes",
+    "&mut [u32]": "&mut words",
+    "&mut [i64]": "&mut values",
+    "&mut u32": "&mut word",
+    "&mut StreamFault": "&mut fault",
     "&mut [Passing]": "&mut passings",
 }
 LENGTH = "&mut u64"
@@ -88,7 +96,7 @@ def _functions(sources: Sources) -> list[Function]:
     found = []
     for path, text in sorted(sources.texts.items()):
         if path.startswith(SOURCE):
-            module = "::".join(PurePosixPath(path[len(SOURCE):]).with_suffix("").parts)
+            module = "::".join(PurePosixPath(path[len(SOURCE) :]).with_suffix("").parts)
             for name, parameters, arrow in FUNCTION.findall(text.decode()):
                 found.append(Function(module, name, parameters, bool(arrow)))
     if not found:
@@ -105,8 +113,10 @@ def _call(number: int, function: Function) -> str:
         if kind:
             value = next(lengths, None) if kind == LENGTH else VALUES.get(kind)
             if value is None:
-                raise Fault(f"{function.name} has a parameter of type {kind}, for which "
-                            "tools/parts/unproved/exported.py has no value")
+                raise Fault(
+                    f"{function.name} has a parameter of type {kind}, for which "
+                    "tools/parts/unproved/exported.py has no value"
+                )
             given.append(value)
     call = f"crate::{function.module}::{function.name}({', '.join(given)})"
     done = f"sum = sum.wrapping_add({call})" if function.gives_number else call

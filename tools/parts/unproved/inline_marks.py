@@ -9,7 +9,8 @@ from pathlib import Path
 from typing import Iterable
 
 FUNCTION = re.compile(
-    r"\s*(?:pub(?:\([a-z]+\))? +)?(?:const +)?(?:unsafe +)?(?:extern \"C\" +)?fn +(\w+)")
+    r"\s*(?:pub(?:\([a-z]+\))? +)?(?:const +)?(?:unsafe +)?(?:extern \"C\" +)?fn +(\w+)"
+)
 MARKS = {"#[inline(always)]": "alwaysinline", "#[inline(never)]": "noinline"}
 NO_MARK = ""
 Marks = dict[str, set[str]]  # of functions, by their names

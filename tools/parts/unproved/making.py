@@ -45,8 +45,10 @@ class Unproved:
             raise Fault(f"nothing is compiled with {SWITCH}=0")
         with locked(self._cache / f"{self.kind.word}.lock", self._waiting):
             if not self.path.is_file():
-                self._say("compiling the code unproved, once, in a minute or two "
-                          f"(it is proved by: {self.kind.proved_by})")
+                self._say(
+                    "compiling the code unproved, once, in a minute or two "
+                    f"(it is proved by: {self.kind.proved_by})"
+                )
                 put(self.path.parent, self.kind.word, self._compile)
                 remove_old(self._cache, f"unproved-*/{self.kind.made}")
 
