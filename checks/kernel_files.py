@@ -39,10 +39,12 @@ class Kernel:
     last: list[str] = field(default_factory=list)
     after: list[str] = field(default_factory=list)
     whole: Counter[str] = field(default_factory=Counter)
+    by_lines: Counter[str] | None = None  # the accesses of each turn, if an instruction with rep accesses each line once
 
-    def wanted(self) -> dict[str, int]:
+    def wanted(self, by_lines: bool = False) -> dict[str, int]:
         """Of each kind that is known: the body's, those of the loop around it, and of what runs once. Without the return."""
-        total = Counter({kind: count * self.turns for kind, count in self.each.items()}) + self.whole
+        each = {**self.each, "loads": 0, "stores": 0, **self.by_lines} if by_lines and self.by_lines is not None else self.each
+        total = Counter({kind: count * self.turns for kind, count in each.items()}) + self.whole
         total["instructions"] += 1 + len(self.first) + 2 * self.turns + len(self.last)
         total["conditional_taken"] += self.turns - 1
         total["conditional_not_taken"] += 1
@@ -84,6 +86,8 @@ def read_kernels(path: Path) -> list[Kernel]:
             kernels[-1].turns = int(rest)
         elif word == "whole":
             kernels[-1].whole += read_counts(rest, place)
+        elif word == "by":
+            kernels[-1].by_lines = read_counts(rest.removeprefix("lines "), place)
         elif word in ("first", "last", "after"):
             getattr(kernels[-1], word).append(rest)
         else:

@@ -2,6 +2,7 @@
 
 from __future__ import annotations
 
+import json
 import os
 import shutil
 import sys
@@ -34,6 +35,15 @@ except (kistalub.PapiError, OSError, ImportError, ValueError, IndexError) as err
         pass
     os._exit(1)
 """
+COUNTS = {
+    "format": "kistalub-counts", "version": 1, "command": ["x"], "unit": {"name": "u", "sha256": "0"}, "presets": None, "cpu": None, "machine": {},
+    "tool": {"kistalub": "1", "valgrind": "3"}, "events": ["A"], "functions_counted": [], "ended": {"status": 0}, "total": {"A": 100},
+    "processes": [], "uncounted_children": 0,
+}
+COUNTED = {
+    "papi_version": "7", "cpu_info": "x", "event_definitions": {"A": {"component": "cpu", "type": "delta"}},
+    "threads": {"0": {"regions": {"0": {"name": "main", "parent_region_id": "-1", "A": "7"}, "1": {"name": "in", "parent_region_id": "0", "A": "2"}}}},
+}
 PROGRAM = "int main(void) { return 0; }\n"
 
 
@@ -90,6 +100,8 @@ SOUND = [
           prints=False, takes_signals=True),
     _tool("record", "-o", "made.stream", "./program", weight=1, prints=False, made=("made.stream",), heavy=True, statuses=(0, 1, 2, 3)),
     _tool("count", "./program", weight=1, prints=False, heavy=True, statuses=tuple(range(0, 128))),
+    _tool("compare", "--limit", "2%", "base.json", "new.json", weight=6),
+    _tool("compare", "--markdown", "regions.json", "regions.json", weight=6),
     _script("papi_run", *LAB, "--notes", "first.script", "first.stream", weight=8),
     _script("papi_run", *LAB, *PRESETS, "--workers", "2", "first.script", "first.stream", "first.stream", weight=4),
     _script("papi_avail", *LAB, *PRESETS, "-a"),
@@ -116,6 +128,8 @@ def fill(folder: Path, program: Path) -> None:
     shutil.copy(program, folder / "program")
     (folder / "loaded.stream").write_text("# loaded at 0x108000\n0 c0 00 u 1 109000\n")
     (folder / "perf.json").write_text(PERF)
+    for name, content in (("base.json", COUNTS), ("new.json", COUNTS), ("regions.json", COUNTED)):
+        (folder / name).write_text(json.dumps(content, indent=1))
 
 
 @dataclass

@@ -178,9 +178,14 @@ def table_text(costs: dict[Job, float]) -> str:
 
 
 def keep_costs(seen: dict[Job, float]) -> None:
-    """Puts new measurements into the table of this machine. What was not measured stays."""
+    """Puts new measurements into the table of this machine. What was not measured stays, and so
+    does what edits cost when more of them were tried."""
     path = kept_table()
+    kept = read_costs(path)
+    new = {
+        job: max(took, kept.get(job, 0)) if job[1] == EDITS else took for job, took in seen.items()
+    }
     path.parent.mkdir(parents=True, exist_ok=True)
     made = path.with_name(f"{path.name}.{os.getpid()}")
-    made.write_text(table_text({**read_costs(path), **seen}), encoding="utf-8")
+    made.write_text(table_text({**kept, **new}), encoding="utf-8")
     made.replace(path)

@@ -5,7 +5,6 @@ from __future__ import annotations
 
 import re
 import shutil
-import subprocess
 from pathlib import Path
 
 from here import ROOT
@@ -27,18 +26,18 @@ TRIED = re.compile(r"^test result: \w+\. (\d+) passed; (\d+) failed", re.MULTILI
 LONG = 1200  # seconds
 
 
+def left_out(folder: str, names: list[str]) -> list[str]:
+    """What is not copied: what git keeps, what rt made, and what Python compiled."""
+    is_crate = Path(folder).parent == ROOT / "crates"
+    return [
+        name for name in names if name in (".git", "__pycache__") or (is_crate and name == "out")
+    ]
+
+
 def copy_tree(to: Path) -> None:
-    """Copies the files of this checkout, but for what is ignored: nothing that is compiled
-    without a proof stands where what is proved stands."""
-    listed = ["git", "ls-files", "-z", "--cached", "--others", "--exclude-standard"]
-    names = subprocess.run(listed, cwd=ROOT, check=True, capture_output=True).stdout.decode(
-        "utf-8", "surrogateescape"
-    )
-    for name in names.split("\0"):
-        source, target = ROOT / name, to / name
-        if name and (source.is_symlink() or source.is_file()):
-            target.parent.mkdir(parents=True, exist_ok=True)
-            shutil.copy2(source, target, follow_symlinks=False)
+    """Copies this checkout, so that nothing that is compiled without a proof stands where what is
+    proved stands."""
+    shutil.copytree(ROOT, to, symlinks=True, ignore=left_out)
 
 
 def placed(tree: Path, name: str, said: str) -> None:
@@ -62,28 +61,18 @@ def tested(tree: Path, crate: str) -> Part:
 
 
 def over_program(tree: Path, processors: int, program: str, library: str) -> list[Part]:
-    """What runs over the program and the library, the longest first."""
-    jobs, path = str(processors), PLACES[PROGRAM]
+    """What runs over the program and the library, which these parts make; the longest first."""
+    jobs, half, path = str(processors), max(1, processors // 2), PLACES[PROGRAM]
+    first, both = tuple(filter(None, [program])), tuple(filter(None, [program, library]))
+    check = ("tools/check", "--jobs", jobs)
+    rows = ("checks/rows", "--program", path, "--jobs", str(half))
     return [
-        Part(
-            "tools/check",
-            ("tools/check", "--jobs", jobs),
-            tree,
-            (program, library),
-            seconds=LONG,
-            processors=max(1, processors // 2),
-        ),
-        Part("examples/c/check", ("examples/c/check",), tree, (program, library), seconds=LONG),
-        Part(
-            "checks/rows",
-            ("checks/rows", "--program", path, "--jobs", str(max(1, processors // 2))),
-            tree,
-            (program,),
-            processors=max(1, processors // 2),
-        ),
-        Part("checks/docs", ("checks/docs", path), tree, (program, library)),
+        Part("tools/check", check, tree, both, seconds=LONG, processors=half),
+        Part("examples/c/check", ("examples/c/check",), tree, both, seconds=LONG),
+        Part("checks/rows", rows, tree, first, processors=half),
+        Part("checks/docs", ("checks/docs", path), tree, first),
         Part("checks/papi_header", ("checks/papi_header",), tree, (library,)),
-        Part("examples/check", ("examples/check", path), tree, (program,)),
+        Part("examples/check", ("examples/check", path), tree, first),
     ]
 
 
@@ -118,4 +107,4 @@ def unproved_parts(tree: Path, processors: int) -> list[Part]:
 def proved_parts(processors: int) -> list[Part]:
     """What the gate has not run yet, over what it proved."""
     archive = Part("c/archive", ("c/archive", "--after-gate"), ROOT, counts=False, seconds=LONG)
-    return [archive, *over_program(ROOT, processors, archive.name, archive.name), *over_files(ROOT)]
+    return [archive, *over_program(ROOT, processors, "", archive.name), *over_files(ROOT)]

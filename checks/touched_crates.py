@@ -103,7 +103,7 @@ def kind_of(name: str, since: str, listed: set[str]) -> tuple[str, str]:
     if not found or found[1] not in listed:
         return NOTHING, NOTHING
     crate, part, rest = found.groups()
-    if part == "must-fail":
+    if part in ("must-fail", "edits"):
         return crate, EDIT
     if part == "specs" or (part == "proofs" and "/" not in rest):
         return crate, CONTRACT

@@ -84,6 +84,8 @@ _FUNCTIONS = {
     "PAPI_enum_event": [POINTER(c_int), c_int],
     "PAPI_query_event": [c_int],
     "PAPI_get_event_info": [c_int, POINTER(Info)],
+    "PAPI_hl_region_begin": [c_char_p],
+    "PAPI_hl_region_end": [c_char_p],
     "kistalub_init": [c_char_p, c_char_p, c_char_p, c_char_p],
     "kistalub_thread": [c_uint32],
     "kistalub_go": [c_uint32, POINTER(c_uint32)],
@@ -91,12 +93,15 @@ _FUNCTIONS = {
 
 
 def library_path() -> str:
-    """The file of the shared library: what KISTALUB_LIBRARY names, or the one under a prefix of bin/install. FileNotFoundError if there is none."""
+    """The file of the shared library: what KISTALUB_LIBRARY names, or the one beside this module, or under a prefix of bin/install. FileNotFoundError if there is none."""
     named = os.environ.get(VARIABLE)
     if named:
         if os.sep in named and not Path(named).is_file():  # (without a folder the system looks for it)
             raise FileNotFoundError(f"kistalub: {VARIABLE} is {named}, and there is no such file: {REMEDY}")
         return named
+    own = Path(__file__).parent / NAME  # of a wheel that has it
+    if own.is_file():
+        return str(own)
     for prefix in PREFIXES:
         path = Path(prefix) / "lib/kistalub" / NAME
         if path.is_file():

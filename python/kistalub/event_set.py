@@ -4,10 +4,11 @@ from __future__ import annotations
 
 import ctypes
 import threading
+import weakref
 from contextlib import contextmanager
 from enum import IntFlag
 from types import TracebackType
-from typing import Callable, Iterator
+from typing import Any, Callable, Iterable, Iterator, Union
 
 from .binding import (
     MOST,
@@ -24,18 +25,34 @@ from .binding import (
     keep_raised,
     text_of,
 )
-from .errors import EINVAL, ENOEVNT, ENOINIT
+from .errors import EINVAL, ENOEVNT, ENOINIT, PapiError
 from .events import code_of
+from .forgotten import free, free_forgotten, watch
 from .library import begun
 
 # Called with the name of the event whose count passed its threshold, and the address of the occurrence.
 Handler = Callable[[str, int], None]
+Names = Union[str, Iterable[str]]  # a name, or several
 
 
 def _check_int(call_name: str, number: int, least: int) -> None:
     """`EINVAL` if C would take a number for another one, or for no number."""
     if not least <= number <= MOST:
         raise EINVAL(call_name, f"not a number from {least} to {MOST}: {number}")
+
+
+def _texts(names: Iterable[Names]) -> list[str]:
+    """The names one after the other. TypeError if one is no text."""
+    found: list[object] = []
+    for name in names:
+        found += [name] if isinstance(name, (str, bytes)) or not isinstance(name, Iterable) else name
+    for each in found:
+        if not isinstance(each, str):
+            raise TypeError(
+                f"kistalub: {each!r} is no name of an event: a name is a text, and a set is made by "
+                "EventSet('INST_RETIRED', 'CYCLES') or by EventSet of a list of names"
+            )
+    return [each for each in found if isinstance(each, str)]
 
 
 class Domain(IntFlag):
@@ -54,15 +71,20 @@ class EventSet:
     A `multiplexed` set takes events that do not fit on the counters together. They take turns of `slice_ns` nanoseconds of the model's clock, each an occurrence
     at the usual 1000 MHz (0: the library's slice, KISTALUB_SLICE), and counts are estimates. `domain` is which occurrences count, the library's if it is None.
 
+    A set that nobody has any more is stopped and freed, with a ResourceWarning.
+
     `ENOINIT` without a library, and what `add` raises.
     """
 
-    def __init__(self, *names: str, multiplexed: bool = False, slice_ns: int = 0, domain: Domain | None = None):
+    def __init__(self, *names: Names, multiplexed: bool = False, slice_ns: int = 0, domain: Domain | None = None):
         self._names: list[str] = []
+        self._codes: list[int] = []
         self._handlers: dict[str, Handler] = {}
         self._number = ctypes.c_int(NULL_SET)
+        free_forgotten()
         call("PAPI_create_eventset", ctypes.byref(self._number))
         self._library = begun()
+        watch(self, self._number, self._library)
         try:
             if multiplexed:
                 _check_int("PAPI_set_opt", slice_ns, 0)
@@ -93,23 +115,26 @@ class EventSet:
         call("PAPI_state", self.number, ctypes.byref(state))
         return bool(state.value & RUNNING)
 
-    def add(self, *names: str) -> None:
+    def add(self, *names: Names) -> None:
         """Adds events, one after the other. `ENOEVNT` if there is no such event, `ECNFLCT` if it does not fit on the counters, `EINVAL` if the set has it or is full,
         `EISRUN` if the set runs. Those before the refused one stay."""
-        for name in names:
+        for name in _texts(names):
             call("PAPI_add_named_event", self.number, text_of(name))
             self._names.append(name)
+            self._codes.append(code_of(name))
 
-    def remove(self, *names: str) -> None:
-        """Removes events by the names that they were added with. `ENOEVNT` if the set has none of this name, `EISRUN` if it runs."""
-        for name in names:
-            self._place_of(name)
-            call("PAPI_remove_named_event", self.number, text_of(name))
-            self._names.remove(name)
-            self._handlers.pop(name, None)
+    def remove(self, *names: Names) -> None:
+        """Removes events by any of their names. `ENOEVNT` if the set has none of this name, `EISRUN` if it runs."""
+        for name in _texts(names):
+            place = self._place_of(name)
+            own = self._names[place]
+            call("PAPI_remove_named_event", self.number, text_of(own))
+            del self._names[place], self._codes[place]
+            self._handlers.pop(own, None)
 
     def start(self) -> None:
         """Begins to count, from 0. `EISRUN` if the set runs, `ECNFLCT` if another running set has the counters, `EINVAL` if the set is empty."""
+        free_forgotten()
         call("PAPI_start", self.number)
 
     def stop(self) -> dict[str, int]:
@@ -119,6 +144,16 @@ class EventSet:
     def read(self) -> dict[str, int]:
         """The counts so far, or those of the last run."""
         return self._counted("PAPI_read")
+
+    def read_into(self, values: Any) -> None:
+        """Writes the counts so far to a buffer of 64-bit integers, in the order of the events: an `array("q", ..)`, or a row of an array of NumPy. TypeError if it is
+        no such buffer, ValueError if it has too little room."""
+        view = memoryview(values)
+        if view.readonly or view.format not in ("q", "l") or view.itemsize != 8 or not view.c_contiguous:
+            raise TypeError("kistalub: counts are written to 64-bit integers that stand side by side, such as numpy.zeros(len(events), 'int64')")
+        if view.nbytes < 8 * len(self):
+            raise ValueError(f"kistalub: there is room for {view.nbytes // 8} counts, and the set has {len(self)}")
+        call("PAPI_read", self.number, (ctypes.c_longlong * len(self)).from_buffer(view))
 
     def accumulate(self, totals: dict[str, int]) -> None:
         """Adds the counts to the numbers of the events in `totals` (0 if one is not there), and counts from 0 again."""
@@ -146,17 +181,19 @@ class EventSet:
 
         `ENOEVNT` if the event is not in the set, `EINVAL` if the threshold is not in its range or the event is derived, `ECOMBO` if the set is multiplexed, `EISRUN` if it runs.
         """
-        self._place_of(name)
+        own = self._names[self._place_of(name)]
+        if not callable(handler):
+            raise TypeError(f"kistalub: a handler is called with a name and an address, and {handler!r} can't be: end_overflow takes a threshold away")
         _check_int("PAPI_overflow", threshold, 1)
-        call("PAPI_overflow", self.number, code_of(name), threshold, 0, _handler)
-        self._handlers[name] = handler
+        call("PAPI_overflow", self.number, code_of(own), threshold, 0, _handler)
+        self._handlers[own] = handler
         _watched.sets[self.number] = self
 
     def end_overflow(self, name: str) -> None:
         """Takes the threshold of an event away. `ENOEVNT` if the event is not in the set, `EINVAL` if it has none, `EISRUN` if the set runs."""
-        self._place_of(name)
-        call("PAPI_overflow", self.number, code_of(name), 0, 0, _handler)
-        self._handlers.pop(name, None)
+        own = self._names[self._place_of(name)]
+        call("PAPI_overflow", self.number, code_of(own), 0, 0, _handler)
+        self._handlers.pop(own, None)
 
     def close(self) -> None:
         """Stops the set if it runs, and destroys it. A set that is closed, or whose library has ended, stays as it is."""
@@ -164,17 +201,18 @@ class EventSet:
             return
         _watched.sets.pop(self._number.value, None)
         try:
-            if self.running:
-                call("PAPI_stop", self.number, self._values({}))
-            call("PAPI_cleanup_eventset", self.number)
-            call("PAPI_destroy_eventset", ctypes.byref(self._number))
+            free(self._number)
         except ENOINIT:
             self._number.value = NULL_SET
 
     def _place_of(self, name: str) -> int:
-        if name not in self._names:
+        """The place of the event that a name stands for, as PAPI takes names: in any case, with its component or without it. `ENOEVNT` if the set has none."""
+        if name in self._names:
+            return self._names.index(name)
+        code = code_of(name)
+        if code not in self._codes:
             raise ENOEVNT("EventSet", f"the set has no event {name!r}")
-        return self._names.index(name)
+        return self._codes.index(code)
 
     def _values(self, totals: dict[str, int]) -> ctypes.Array[ctypes.c_longlong]:
         """A number for each event, from `totals` or 0. There is room for one at least."""
@@ -204,7 +242,10 @@ class EventSet:
         return len(self._names)
 
     def __contains__(self, name: object) -> bool:
-        return name in self._names
+        try:
+            return isinstance(name, str) and self._place_of(name) >= 0
+        except (PapiError, ValueError):
+            return False
 
     def __iter__(self) -> Iterator[str]:
         return iter(self.events)
@@ -217,7 +258,7 @@ class _Watched(threading.local):
     """The sets of the thread that have handlers, by their numbers."""
 
     def __init__(self) -> None:
-        self.sets: dict[int, EventSet] = {}
+        self.sets: weakref.WeakValueDictionary[int, EventSet] = weakref.WeakValueDictionary()
 
 
 _watched = _Watched()

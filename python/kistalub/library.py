@@ -27,6 +27,11 @@ def begun() -> int:
     return _Begun.number
 
 
+def is_begun() -> bool:
+    """Whether a library is begun and has not ended."""
+    return _Begun.lasts
+
+
 class Library:
     """The library of the process, over a unit file, a preset file for a cpu, and streams: `with Library("lab.unit", stream="first.stream"):`.
 

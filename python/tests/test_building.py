@@ -6,8 +6,11 @@ import base64
 import email
 import hashlib
 import importlib.util
+import os
 import subprocess
 import sys
+import sysconfig
+import tarfile
 import tempfile
 import unittest
 import zipfile
@@ -18,6 +21,9 @@ from shared_library import ROOT
 import building
 
 VERSION = (ROOT / "VERSION").read_text(encoding="ascii").strip()
+
+
+needs_pip = unittest.skipUnless(importlib.util.find_spec("pip"), "pip is not installed")
 
 
 class Building(unittest.TestCase):
@@ -48,18 +54,68 @@ class Building(unittest.TestCase):
         self.assertEqual(dict(told.items()), fields)
         self.assertEqual(told.get_payload(), (ROOT / "docs/PYTHON.md").read_text(encoding="utf-8"))
 
-    def test_there_is_no_archive_of_sources(self) -> None:
-        with self.assertRaisesRegex(NotImplementedError, "the sources are the repository itself"):
-            building.build_sdist(self.folder)
+    def test_the_archive_of_sources_gives_the_same_wheel(self) -> None:
+        name = building.build_sdist(self.folder)
+        self.assertEqual(name, f"kistalub-{VERSION}.tar.gz")
+        first = (Path(self.folder) / name).read_bytes()
+        self.assertEqual((Path(self.folder) / building.build_sdist(self.folder)).read_bytes(), first)
+        with tarfile.open(Path(self.folder) / name) as archive:
+            archive.extractall(self.folder)
+        top = Path(self.folder) / f"kistalub-{VERSION}"
+        code = "import sys, building; print(building.build_wheel(sys.argv[1]))"
+        environment = {**os.environ, "PYTHONPATH": str(top / "python")}
+        told = subprocess.run(
+            [sys.executable, "-B", "-c", code, str(top)], env=environment, capture_output=True, text=True
+        )
+        wheel = building.build_wheel(self.folder)
+        self.assertEqual((told.stdout, told.stderr), (f"{wheel}\n", ""))
+        self.assertEqual((top / wheel).read_bytes(), (Path(self.folder) / wheel).read_bytes())
+        self.assertIn(f"Version: {VERSION}\n", (top / "PKG-INFO").read_text(encoding="utf-8"))
+
+    def test_a_wheel_may_have_the_library(self) -> None:
+        library = Path(self.folder) / "some.so"
+        library.write_bytes(b"code")
+        name = building.build_wheel(self.folder, {"library": str(library)})
+        tag = "py3-none-" + sysconfig.get_platform().replace("-", "_").replace(".", "_")
+        self.assertEqual(name, f"kistalub-{VERSION}-{tag}.whl")
+        with zipfile.ZipFile(Path(self.folder) / name) as wheel:
+            self.assertEqual(wheel.read("kistalub/libpapi.so.7.0"), b"code")
+            told = wheel.read(f"kistalub-{VERSION}.dist-info/WHEEL").decode()
+        self.assertIn(f"Root-Is-Purelib: false\nTag: {tag}\n", told)
+        with self.assertRaises(FileNotFoundError):
+            building.build_wheel(self.folder, {"library": f"{self.folder}/none.so"})
+
+    def test_pytest_finds_the_plugin(self) -> None:
+        with zipfile.ZipFile(Path(self.folder) / building.build_wheel(self.folder)) as wheel:
+            told = wheel.read(f"kistalub-{VERSION}.dist-info/entry_points.txt").decode()
+            self.assertIn("kistalub/pytest_plugin.py", wheel.namelist())
+        self.assertEqual(told, "[pytest11]\nkistalub = kistalub.pytest_plugin\n")
 
     def test_the_same_files_give_the_same_wheel(self) -> None:
         first = (Path(self.folder) / building.build_wheel(self.folder)).read_bytes()
         self.assertEqual(first, (Path(self.folder) / building.build_wheel(self.folder)).read_bytes())
 
-    @unittest.skipUnless(importlib.util.find_spec("pip"), "pip is not installed")
-    def test_pip_installs_it_without_an_index(self) -> None:
-        words = ["-m", "pip", "install", "--quiet", "--no-index", "--disable-pip-version-check", "--target", self.folder, str(ROOT)]
-        ran = subprocess.run([sys.executable, *words], capture_output=True, text=True, timeout=120)
+    def installed(self, *words: str) -> str:
+        """What pip installs without a network, and where Python finds the module then."""
+        place = Path(self.folder) / "place"
+        pip = [sys.executable, "-m", "pip", "install", "--quiet", "--no-index", "--no-deps", "--disable-pip-version-check"]
+        ran = subprocess.run([*pip, "--prefix", str(place), *words], capture_output=True, text=True, timeout=120)
         self.assertEqual(ran.returncode, 0, ran.stderr)
-        told = subprocess.run([sys.executable, "-c", "import kistalub; print(kistalub.__version__)"], cwd=self.folder, capture_output=True, text=True)
-        self.assertEqual((told.stdout, told.stderr), (f"{VERSION}\n", ""))
+        site = next(place.rglob("site-packages"))
+        code = f"import site; site.addsitedir({str(site)!r})\nimport kistalub; print(kistalub.__version__, kistalub.__file__)"
+        told = subprocess.run([sys.executable, "-B", "-c", code], cwd=self.folder, capture_output=True, text=True)
+        version, _, file = told.stdout.partition(" ")
+        self.assertEqual((version, told.stderr), (VERSION, ""))
+        return file.strip().removeprefix(f"{site}/")
+
+    @needs_pip
+    def test_pip_installs_it_without_an_index(self) -> None:
+        self.assertEqual(self.installed(str(ROOT)), "kistalub/__init__.py")
+
+    @needs_pip
+    def test_pip_installs_the_checkout_itself(self) -> None:
+        self.assertEqual(self.installed("--editable", str(ROOT)), str(ROOT / "python/kistalub/__init__.py"))
+
+    @needs_pip
+    def test_pip_installs_the_archive_of_sources(self) -> None:
+        self.assertEqual(self.installed(f"{self.folder}/{building.build_sdist(self.folder)}"), "kistalub/__init__.py")

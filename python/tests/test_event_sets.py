@@ -2,8 +2,11 @@
 
 from __future__ import annotations
 
+import importlib.util
 import pickle
 import threading
+import unittest
+from array import array
 
 from shared_library import EXAMPLES, UNIT, OverLibrary
 
@@ -80,6 +83,83 @@ class Counting(OverLibrary):
             self.assertEqual(counts, {"PAPI_RES_STL": 5})  # cycles less instructions
 
 
+class Names(OverLibrary):
+    """Names are those of PAPI: in any case, with their component or without it."""
+
+    def test_events_by_any_of_their_names(self) -> None:
+        with Library(UNIT, stream=FIRST), EventSet("inst_retired", "lab::CYCLES") as events:
+            for name in ("INST_RETIRED", "inst_retired", "lab::Inst_Retired", "cycles", "LAB::CYCLES"):
+                self.assertIn(name, events)
+            for name in ("REF", "NO_SUCH", "INST_RETIRED:u", "", "CYCLES\0", 7, None):
+                self.assertNotIn(name, events)
+            events.remove("INST_RETIRED")
+            with events.counting() as counts:
+                kistalub.go()
+            self.assertEqual((counts, list(events)), ({"lab::CYCLES": 7}, ["lab::CYCLES"]))
+
+    def test_a_handler_is_told_the_name_of_the_set(self) -> None:
+        told: list[str] = []
+        with Library(UNIT, stream=LARGE), EventSet("inst_retired") as events:
+            events.on_overflow("lab::INST_RETIRED", 2000, lambda name, address: told.append(name))
+            events.start()
+            kistalub.go()
+            events.stop()
+            events.end_overflow("INST_RETIRED")
+        self.assertEqual(told, ["inst_retired"])
+
+    def test_a_removed_event_has_no_handler_when_it_is_added_again(self) -> None:
+        told: list[str] = []
+        with Library(UNIT, stream=LARGE), EventSet("CYCLES", "INST_RETIRED") as events:
+            for name in list(events):
+                events.on_overflow(name, 256, lambda name, address: told.append(name))
+            events.remove("CYCLES")
+            events.add("CYCLES")
+            self.assertEqual(list(events), ["INST_RETIRED", "CYCLES"])
+            with events.counting() as counts:
+                kistalub.go()
+            self.assertEqual(counts, {"INST_RETIRED": 2040, "CYCLES": 0})
+        self.assertEqual(set(told), {"INST_RETIRED"})
+
+    def test_several_names_at_once(self) -> None:
+        with Library(UNIT), EventSet(["INST_RETIRED", "CYCLES"]) as events, EventSet() as others:
+            self.assertEqual(list(events), ["INST_RETIRED", "CYCLES"])
+            others.add(("INST_RETIRED",), "CYCLES")
+            others.remove(["INST_RETIRED", "CYCLES"])
+            self.assertEqual((len(events), len(others)), (2, 0))
+            for odd in (7, None, b"CYCLES", ["CYCLES", 7], [["CYCLES"]]):
+                with self.assertRaisesRegex(TypeError, r"is no name of an event: .* EventSet\('INST_RETIRED', 'CYCLES'\)"):
+                    EventSet(odd)  # type: ignore[arg-type]
+
+
+class Arrays(OverLibrary):
+    def test_counts_in_a_buffer(self) -> None:
+        values = array("q", [9, 9, 9])
+        with Library(UNIT, stream=FIRST), EventSet("INST_RETIRED", "CYCLES") as events:
+            events.start()
+            kistalub.go()
+            events.read_into(values)
+            self.assertEqual(list(values), [2, 7, 9])
+            events.read_into(memoryview(values)[1:])
+            self.assertEqual(list(values), [2, 2, 7])
+            for odd in (array("i", [0] * 4), array("d", [0.0] * 2), bytes(16), memoryview(values)[::2]):
+                with self.assertRaisesRegex(TypeError, "64-bit integers that stand side by side"):
+                    events.read_into(odd)
+            with self.assertRaisesRegex(ValueError, "there is room for 1 counts, and the set has 2"):
+                events.read_into(values[:1])
+
+    @unittest.skipUnless(importlib.util.find_spec("numpy"), "numpy is not installed")
+    def test_rows_of_numpy(self) -> None:
+        import numpy
+
+        rows = numpy.zeros((2, 1), "int64")
+        with Library(UNIT, stream=FIRST), EventSet("CYCLES") as events:
+            events.start()
+            for row in rows:
+                kistalub.go(1)
+                events.read_into(row)
+        self.assertEqual(rows.tolist(), [[0], [7]])
+
+
 class Refusals(OverLibrary):
     def test_each_has_its_exception(self) -> None:
         with Library(UNIT, stream=FIRST), EventSet("INST_RETIRED") as events, EventSet("BR_INST") as branches:
@@ -107,9 +187,36 @@ class Refusals(OverLibrary):
             EventSet("NO_SUCH")
         error = raised.exception
         self.assertEqual((error.code, error.name, error.call), (-7, "PAPI_ENOEVNT", "PAPI_add_named_event"))
-        self.assertEqual(str(error), "PAPI_add_named_event: PAPI_ENOEVNT: Event does not exist")
+        advice = "native_events(umasks=True), preset_events() and user_events() list what there is"
+        self.assertEqual(str(error), f"PAPI_add_named_event: PAPI_ENOEVNT: Event does not exist ({advice})")
+        self.assertEqual(error.advice, advice)
         copied = pickle.loads(pickle.dumps(error))
         self.assertEqual((type(copied), str(copied), copied.code), (type(error), str(error), error.code))
+
+    def test_advice_fits_the_call(self) -> None:
+        """Each refusal that one meets while counting says what to do, and EINVAL what it is about."""
+        with Library(UNIT, stream=FIRST), EventSet("INST_RETIRED") as events, EventSet("BR_INST") as branches, EventSet() as empty:
+            cases = (
+                (lambda: events.add("INST_RETIRED"), "the set has the event already"), (empty.start, "the set has no event"),
+                (lambda: events.on_overflow("INST_RETIRED", 1, print), "a threshold is from 256 on"), (Library(UNIT).__enter__, "a library is begun already"),
+                (lambda: branches.add("BR_MISP"), "multiplexed=True"), (events.stop, "start() begins to count"), (lambda: kistalub.thread(5), "another number already"),
+                (lambda: events.remove("CYCLES"), "EventSet.events has the names"), (lambda: EventSet(domain=Domain(4)), "Domain.USER"),
+            )
+            for act, advice in cases:
+                with self.assertRaises(kistalub.PapiError) as raised:
+                    act()
+                self.assertIn(advice, raised.exception.advice)
+                self.assertTrue(str(raised.exception).endswith(f" ({raised.exception.advice})"))
+            events.start()
+            with self.assertRaisesRegex(kistalub.EISRUN, r"\(stop\(\) the set first\)$"):
+                events.start()
+            events.close()
+            with self.assertRaisesRegex(kistalub.ENOINIT, r"\(a new set counts in the library that is begun\)$"):
+                events.start()
+
+    def test_a_handler_that_can_not_be_called(self) -> None:
+        with Library(UNIT), EventSet("INST_RETIRED") as events, self.assertRaisesRegex(TypeError, "end_overflow takes a threshold away"):
+            events.on_overflow("INST_RETIRED", 256, None)  # type: ignore[arg-type]
 
     def test_a_refused_set_is_destroyed(self) -> None:
         with Library(UNIT):

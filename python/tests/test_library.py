@@ -72,6 +72,14 @@ class Events(OverLibrary):
             with Library(UNIT, presets=EXAMPLES / "user_events.presets", cpu=cpu):
                 self.assertEqual((kistalub.preset_events(), kistalub.user_events()), (["PAPI_TOT_INS"] if cpu == "lab1" else [], wanted))
 
+    def test_a_description_is_whole(self) -> None:
+        """The short one has 63 letters at most (PAPI_MIN_STR_LEN), and this one has 80."""
+        text = "x" * 40 + "y" * 40
+        unit = self.stream("COMPONENT,cpu,lab", "COUNTER,P0,40,P", "COMPONENT,net,wire", "COUNTER,N0,40,P", f"EVENT,SEEN,01,N0,{text}", name="long.unit")
+        with Library(unit):
+            info = kistalub.describe("seen")
+        self.assertEqual((info.name, info.description, info.component, info.derived, info.formula, info.natives), ("wire::SEEN", text, 1, "", "", ()))
+
     def test_what_is_told_of_an_event(self) -> None:
         with Library(UNIT, presets=PRESETS, cpu="lab2"):
             info = kistalub.describe("PAPI_BR_PRC")

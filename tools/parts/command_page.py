@@ -23,6 +23,7 @@ class Page:
     line: str  # the words as a synopsis has them
     statuses: tuple[tuple[str, str], ...]
     examples: tuple[tuple[str, str], ...]  # what it does, and the command
+    titles: tuple[str, str] = OWN_TITLES  # of the words without a name, and of those with one
 
 
 class _Found(BaseException):
@@ -51,7 +52,7 @@ def command_section(parser: argparse.ArgumentParser, page: Page) -> list[str]:
     lines = [f"## {parser.prog}", "", f"    {parser.prog} {page.line}", "", parser.description or "", ""]
     for number, group in enumerate(parser._action_groups):
         rows = [f"| `{cell(_plain_word(action))}` | {cell((action.help or '').replace('%%', '%'))} |" for action in group._group_actions if action.help and action.dest != "help"]
-        title = str(group.title) if number >= len(OWN_TITLES) else OWN_TITLES[number]
+        title = str(group.title) if number >= len(OWN_TITLES) else page.titles[number]
         if rows:
             lines += [f"{title[0].upper()}{title[1:]}:", "", "| Word | Meaning |", "|---|---|", *rows, ""]
     lines += ["| Status | What it means |", "|---|---|", *(f"| {number} | {meaning} |" for number, meaning in page.statuses), ""]
@@ -103,7 +104,7 @@ def command_page(parser: argparse.ArgumentParser, page: Page, date: str) -> str:
         *sentences(parser.description or ""),
     ]
     for number, group in enumerate(parser._action_groups):  # the first two are argparse's own, and each version of Python has other titles for them
-        title = str(group.title) if number >= len(OWN_TITLES) else OWN_TITLES[number]
+        title = str(group.title) if number >= len(OWN_TITLES) else page.titles[number]
         lines += [".Pp", *sentences(f"{title[0].upper()}{title[1:]}:"), *_listed(list(_items(group._group_actions)))]
     lines += [".Sh EXIT STATUS", *_listed([line for number, meaning in page.statuses for line in (f".It {number}", *sentences(meaning))])]
     lines += [".Sh EXAMPLES"]

@@ -107,6 +107,7 @@ def _words(
     words += (
         planned.words(counting.machine) if planned and is_partial else counting.machine.tool_words()
     )
+    words += [f"--function={name}" for name in whole.functions]
     if counting.keep:
         words += [
             "--tape=yes",

@@ -12,6 +12,7 @@ MOST_COST = 10_000
 PREDICTOR_BITS = range(1, 25)
 CACHES = ("l1d", "l1i", "l2", "l3")
 BUFFERS = ("dtlb", "itlb")
+REP = ("turns", "lines")
 COSTS = ("L2", "L3", "MEMORY", "PAGE", "BRANCH")
 
 
@@ -38,6 +39,7 @@ class Machine:
     shapes: dict[str, Shape | None] = field(default_factory=dict)
     predictor: int = 14  # the number of counters as a power of two
     costs: tuple[int, ...] = (8, 38, 200, 20, 16)
+    rep: str = REP[0]  # what an instruction with rep accesses
 
     def with_shapes(self, shapes: dict[str, Shape | None]) -> Machine:
         return replace(self, shapes={**self.shapes, **shapes})
@@ -50,7 +52,7 @@ class Machine:
     def tool_words(self) -> list[str]:
         """As our tool of Valgrind takes them."""
         shapes = [f"--{name}={shape.word() if shape else 'none'}" for name, shape in self.shapes.items()]
-        return ["--model=yes", f"--predictor={self.predictor}", f"--costs={','.join(map(str, self.costs))}", *shapes]
+        return ["--model=yes", f"--predictor={self.predictor}", f"--costs={','.join(map(str, self.costs))}", f"--rep={self.rep}", *shapes]
 
 
 def _numbers(text: str, form: str) -> list[int]:

@@ -23,6 +23,7 @@ class Process:
     program: str = ""
     threads: dict[int, Counter[str]] = field(default_factory=dict)  # by kind of occurrence
     calls: int = 0  # of the library
+    called: Counter[int] = field(default_factory=Counter)  # named functions, by number
     children: int = 0
     has_ended: bool = False  # else nothing is known of its last program
     is_refused: bool = False  # it called the library, which the run could not serve
@@ -38,6 +39,7 @@ class _Program:
     path: str
     threads: dict[int, Counter[str]] = field(default_factory=dict)
     calls: int = 0
+    called: Counter[int] = field(default_factory=Counter)
     ended: str = ""
 
 
@@ -67,6 +69,7 @@ def _read(path: Path) -> Process:
     for program in programs:
         process.program = program.path
         process.calls += program.calls
+        process.called += program.called
         process.has_ended = program.ended == "ended"
         for number, counts in program.threads.items():
             process.threads[number] = process.threads.get(number, Counter()) + counts
@@ -78,6 +81,9 @@ def _take(process: Process, program: _Program, word: str, rest: str) -> None:
     if word == "thread":
         number, kind, count = rest.split()
         program.threads.setdefault(int(number), Counter())[kind] += int(count)
+    elif word == "function":
+        function, calls = map(int, rest.split())
+        program.called[function] += calls
     elif word == "calls":
         program.calls = int(rest)
     elif word == "children":
@@ -86,6 +92,7 @@ def _take(process: Process, program: _Program, word: str, rest: str) -> None:
         process.is_refused = True
     elif word == "stays":  # what was told before tells what it did up to there
         program.threads.clear()
+        program.called.clear()
         program.ended = ""
     else:
         program.ended = word

@@ -55,6 +55,7 @@ class Recorded:
     second_thread: bool = False
     replaced_by: str | None = None  # the program that this one became
     failure: str | None = None
+    refused: str | None = None  # what is said of an instruction that Valgrind does not have
     status: int = 0  # the program's, or the number of a signal below zero
 
     def sum(self, *names: str) -> int:
@@ -163,6 +164,8 @@ def take_line(recorded: Recorded, progress: Progress, line: str) -> None:
         recorded.papi = rest
     elif word == "failed":
         recorded.failure = rest
+    elif word == "refused":
+        recorded.refused = rest
     elif word == "calls":
         recorded.calls = int(rest)
     elif word == "from":

@@ -6,7 +6,7 @@ import argparse
 from typing import Any, Callable
 
 from parts.command import Fault
-from parts.machine import BUFFERS, CACHES, COSTS, MACHINES, Machine, read_buffer, read_cache, read_costs, read_predictor
+from parts.machine import BUFFERS, CACHES, COSTS, MACHINES, Machine, REP, read_buffer, read_cache, read_costs, read_predictor
 from parts.whole_words import add_whole
 
 MOST_WINDOW = 1 << 40
@@ -87,6 +87,8 @@ def _add_machine(parser: argparse.ArgumentParser) -> None:
     machine.add_argument("--costs", metavar=",".join(COSTS), type=word(read_costs), default=Machine().costs,
                          help="cycles of an access that the second level, the third or the memory serves, of a page that is missed, and of a "
                          "mispredicted branch, beside the one of each instruction (8,38,200,20,16)")
+    machine.add_argument("--rep", choices=REP, default=REP[0], help="what an instruction with rep loads and stores: something in each of its turns, or "
+                         "each line of 64 bytes once (turns)")
 
 
 def _add_window(lines: argparse._ArgumentGroup) -> None:
@@ -114,4 +116,4 @@ def _add_lines(parser: argparse.ArgumentParser) -> None:
 def machine_of(words: argparse.Namespace) -> Machine:
     shapes = {name: getattr(words, name) for name in (*CACHES, *BUFFERS) if hasattr(words, name)}
     named = MACHINES[words.machine].with_shapes(shapes)
-    return Machine(named.shapes, words.predictor, words.costs)
+    return Machine(named.shapes, words.predictor, words.costs, words.rep)

@@ -82,7 +82,7 @@ def _own_folder() -> Path:
 
 def command(words: list[str], program: str, arguments: list[str]) -> list[str]:
     """What starts a program under the tool, with the tool's own words. Threads run one after the other: one that waits for another lets each run before it goes on."""
-    return [str(tool()), f"--tool={NAME}", "--quiet", "--vgdb=no", "--fair-sched=try", *words, "--", program, *arguments]
+    return [str(tool()), f"--tool={NAME}", "--quiet", "--vgdb=no", "--fair-sched=try", "--sigill-diagnostics=no", *words, "--", program, *arguments]
 
 
 def of_one_length(folder: str) -> str:

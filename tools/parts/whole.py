@@ -44,6 +44,7 @@ class Whole:
     table: str | None = None  # files, standard error without one
     json: str | None = None
     csv: str | None = None
+    functions: tuple[str, ...] = ()  # whose calls alone count
 
     def is_asked(self) -> bool:
         """Whether somebody wants it, whatever the program does."""
@@ -139,9 +140,14 @@ def counts_of(
                 threads,
             )
         )
-    return WholeCounts(
-        tuple(command), tuple(each.name for each in plan.sums), total, tuple(found), 0, status
-    )
+    events = tuple(each.name for each in plan.sums)
+    return WholeCounts(tuple(command), events, total, tuple(found), 0, status)
+
+
+def _never_called(whole: Whole, processes: Sequence[Process]) -> list[str]:
+    """The named functions that were not called."""
+    called = sum((process.called for process in processes), Counter[int]())
+    return [name for number, name in enumerate(whole.functions) if not called[number]]
 
 
 def _what_is_missing(program: str, first: Process | None, status: int) -> str | None:
@@ -188,14 +194,20 @@ def tell(
                 "whole beside them"
             )
         return
+    shown_ones = processes if whole.children else processes[:1]
+    never = _never_called(whole, shown_ones)
+    if processes and never and len(never) == len(whole.functions):
+        raise Fault(f"{program} never called {', '.join(never)}: nothing was counted")
     if missing and not any(process.total() for process in processes[:1]):
         raise Fault(missing)
-    shown_ones = processes if whole.children else processes[:1]
     counts = replace(
         counts_of(planned or plan(whole, named), shown_ones, run.command, run.status),
         uncounted_children=len(processes) - len(shown_ones),
+        functions=whole.functions,
     )
     _write(counts, outputs, named, machine)
+    if never:
+        raise Fault(f"{program} never called {', '.join(never)}")
     if missing:
         raise Fault(missing)
 
@@ -203,15 +215,14 @@ def tell(
 def _write(
     counts: WholeCounts, outputs: Outputs, named: Mapping[str, str], machine: Machine
 ) -> None:
-    text = table(counts)
+    if "table" in outputs.files:
+        outputs.write("table", table(counts))
+    else:
+        sys.stderr.write(table(counts))
     if counts.uncounted_children:
         number = counts.uncounted_children
         processes = "1 child process" if number == 1 else f"{number:,} child processes"
-        text += f"{own_name()}: {processes} not counted (--children counts them too)\n"
-    if "table" in outputs.files:
-        outputs.write("table", text)
-    else:
-        sys.stderr.write(text)
+        sys.stderr.write(f"{own_name()}: {processes} not counted (--children counts them too)\n")
     if "json" in outputs.files:
         outputs.write("json", as_json(counts, named, machine))
     if "csv" in outputs.files:

@@ -18,6 +18,15 @@ def add_whole(parser: argparse.ArgumentParser) -> None:
         "branches, mispredicted ones, floating-point operations)",
     )
     whole.add_argument(
+        "--function",
+        metavar="NAME",
+        dest="functions",
+        action="append",
+        default=[],
+        help="count what happens in calls of this function alone, from each call to its return, "
+        "with what it calls; may be repeated. 0xADDRESS names one by its address in the program's file",
+    )
+    whole.add_argument(
         "--whole",
         action="store_true",
         help="count a program that makes PAPI's calls as a whole too, beside them",
@@ -44,4 +53,5 @@ def whole_of(words: argparse.Namespace) -> Whole:
     files = (
         None if name is None else of_rank(name) for name in (words.table, words.json, words.csv)
     )
-    return Whole(words.whole, words.events, words.children, *files)
+    functions = tuple(dict.fromkeys(words.functions))
+    return Whole(words.whole, words.events, words.children, *files, functions)

@@ -70,9 +70,9 @@ class Install(InFolder):
     def test_what_is_where(self) -> None:
         done = self.install("--program-suffix=-x", self.prefix)
         self.assertEqual((done.returncode, done.stdout, done.stderr), (0, "", ""))
-        self.assertEqual(sorted(path.name for path in (self.prefix / "bin").iterdir()), sorted([*(f"{tool}-x" for tool in TOOLS), "papi_count-x", "papi_record-x"]))
+        self.assertEqual(sorted(path.name for path in (self.prefix / "bin").iterdir()), sorted([*(f"{tool}-x" for tool in TOOLS), "papi_compare-x", "papi_count-x", "papi_record-x"]))
         pages = sorted(path.name for path in (self.prefix / "share/man/man1").iterdir())
-        self.assertEqual(pages, sorted([*(f"{tool}-x.1" for tool in TOOLS), "papi_count-x.1", "papi_record-x.1"]))
+        self.assertEqual(pages, sorted([*(f"{tool}-x.1" for tool in TOOLS), "papi_compare-x.1", "papi_count-x.1", "papi_record-x.1"]))
         for file in ("lib/libkistalub.a", "lib/kistalub/libpapi.so", "lib/kistalub/lib/libpapi.so.7.0", "lib/kistalub/include/papi.h", "lib/kistalub/lib/pkgconfig/papi.pc",
                      "include/kistalub/kistalub.h", "share/kistalub/recording/tools/valgrind/build", "share/kistalub/recording/library/libpapi.so.7.0", "share/zsh/site-functions/_kistalub-x",
                      "share/bash-completion/completions/papi_run-x", "share/fish/vendor_completions.d/papi_run-x.fish"):  # fmt: skip
@@ -180,7 +180,7 @@ class Install(InFolder):
 
     def test_recording_finds_its_parts(self) -> None:
         self.install(self.prefix)
-        for tool in ("papi_record", "papi_count"):
+        for tool in ("papi_record", "papi_count", "papi_compare"):
             done = subprocess.run([str(self.prefix / "bin" / tool), "--help"], capture_output=True, text=True)
             self.assertEqual((done.returncode, done.stderr, done.stdout.startswith(f"usage: {tool} ")), (0, "", True), done.stderr)
 

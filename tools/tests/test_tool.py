@@ -42,6 +42,11 @@ class Classes(Harness):
         "f348a5": ("rep movsq", "plain repeats"), "f00fc102": ("lock xadd %eax,(%rdx)", "plain locks"), "f0ff02": ("lock incl (%rdx)", "plain locks"),
         "f00fb102": ("lock cmpxchg %eax,(%rdx)", "plain"), "8702": ("xchg %eax,(%rdx)", "plain locks"), "6690": ("xchg %ax,%ax", "plain"),
         "7512": ("jne .+20", "conditional"), "0f85ca070000": ("jne .+2000", "conditional"), "e308": ("jrcxz .+10", "conditional"), "e208": ("loop .+10", "conditional"),
+        "7012": ("jo .+20", "conditional"), "7f12": ("jg .+20", "conditional"), "6f": ("outsl", "plain"), "e0fe": ("loopne .", "conditional"), "e1fe": ("loope .", "conditional"),
+        "e410": ("in $16,%al", "plain"), "0f80ca070000": ("jo .+2000", "conditional"), "0f8fca070000": ("jg .+2000", "conditional"), "0f90c0": ("seto %al", "plain"),
+        "67f20f5800": ("addsd (%eax),%xmm0", "scalar double"), "2ef20f5800": ("addsd %cs:(%rax),%xmm0", "scalar double"), "36f20f5800": ("addsd %ss:(%rax),%xmm0", "scalar double"),
+        "3ef20f5800": ("ds addsd (%rax),%xmm0", "scalar double"), "26f20f5800": ("addsd %es:(%rax),%xmm0", "scalar double"), "64f20f5800": ("addsd %fs:(%rax),%xmm0", "scalar double"),
+        "65f2480f5800": ("rex.W addsd %gs:(%rax),%xmm0", "scalar double"), "3e7511": ("jne,pt .+20", "conditional"), "2e0f85c9070000": ("jne,pn .+2000", "conditional"),
         "eb08": ("jmp .+10", "jump"), "f2ff25e52f0000": ("bnd jmp *0x2fe5(%rip)", "jump"), "3effe0": ("notrack jmp *%rax", "jump"),
         "e8e3030000": ("call .+1000", "call"), "ffd0": ("call *%rax", "call"), "41ff542408": ("call *8(%r12)", "call"),
         "c3": ("ret", "return"), "f3c3": ("repz ret", "return"), "c21000": ("ret $16", "return"), "f30f1efa": ("endbr64", "plain"), "0f05": ("syscall", "plain"),
@@ -57,7 +62,9 @@ class Classes(Harness):
         "c5f5fed0": ("vpaddd %ymm0,%ymm1,%ymm2", "plain"), "c4e37d04c801": ("vpermilps $1,%ymm0,%ymm1", "plain"),
         "d800": ("fadds (%rax)", "x87"), "def9": ("fdivrp %st,%st(1)", "x87"), "d9fa": ("fsqrt", "x87"), "dc08": ("fmull (%rax)", "x87"), "da00": ("fiaddl (%rax)", "x87"),
         "de30": ("fidivs (%rax)", "x87"), "d9fb": ("fsincos", "x87"), "d9e1": ("fabs", "plain"), "d9e0": ("fchs", "plain"), "d9c9": ("fxch", "plain"),
-        "dff1": ("fcomip %st(1),%st", "plain"), "dac9": ("fcmove %st(1),%st", "plain"),
+        "d9f0": ("f2xm1", "x87"), "d9f1": ("fyl2x", "x87"), "d9f2": ("fptan", "x87"), "d9f3": ("fpatan", "x87"), "d9f4": ("fxtract", "plain"), "d9f5": ("fprem1", "x87"),
+        "d9f6": ("fdecstp", "plain"), "d9f7": ("fincstp", "plain"), "d9f8": ("fprem", "x87"), "d9f9": ("fyl2xp1", "x87"), "d9fc": ("frndint", "plain"), "d9fd": ("fscale", "plain"),
+        "d9fe": ("fsin", "x87"), "d9ff": ("fcos", "x87"), "dff1": ("fcomip %st(1),%st", "plain"), "dac9": ("fcmove %st(1),%st", "plain"),
     }
 
     def test_classes(self) -> None:

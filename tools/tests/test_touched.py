@@ -216,6 +216,7 @@ class Programs(unittest.TestCase):
             ("crates/low/proofs/A.antt", "low; the crates above: middle, top, top_tests"),
             ("crates/low/proofs/f/Answers.antt", "bodies and proofs alone changed: low"),
             ("crates/low/must-fail/a.edit", "edits changed: low (checks/edits)"),
+            ("crates/low/edits/a.edit", "edits changed: low (checks/edits)"),
             ("crates/none/src/lib.rt", "nothing has to be proved"),
             ("c/a.c", "nothing has to be proved"),
             ("HANDLES", "low, middle, other, top, top_tests; "),

@@ -22,7 +22,8 @@ needs_papi = unittest.skipUnless(
 
 class Whole(InFolder):
     def assemble(self, name: str, text: str) -> str:
-        """A static program of these instructions."""
+        """A static program of these instructions. Valgrind reads symbols if there are data too."""
+        text += "\n.data\n.quad 1\n"
         source, program = self.write(f"{name}.s", f".globl _start\n_start:\n{text}"), str(
             self.folder / name
         )
@@ -36,6 +37,15 @@ class Whole(InFolder):
         source, program = self.write(name + suffix, text), str(self.folder / name)
         subprocess.run([compiler, "-O1", "-o", program, source, "-lpthread", *words], check=True)
         return program
+
+    def address_of(self, program: str, symbol: str) -> int:
+        listed = subprocess.run(["nm", program], capture_output=True, text=True, check=True).stdout
+        return next(
+            int(line.split()[0], 16) for line in listed.splitlines() if line.endswith(f" {symbol}")
+        )
+
+    def strip(self, program: str) -> None:
+        subprocess.run(["strip", program], check=True)
 
     def count(self, *words: str) -> subprocess.CompletedProcess[str]:
         return subprocess.run(

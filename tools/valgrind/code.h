@@ -15,6 +15,7 @@ typedef struct {
     Addr first, pc, before;   /* the block's first instruction, this one, and the one before it in this block */
     UInt size;
     UChar class;
+    UInt loads;               /* of an instruction that repeats itself, so far */
     Bool is_counted, is_branch_seen;
     Addr fetched_page, fetched_line; /* of the last fetch in this block */
     Bool is_redirected;       /* Valgrind runs this code in place of the program's */

@@ -58,6 +58,7 @@ static core *new_core(void) {
     core *c = pages(core_size());
     for (UInt i = 0; i < KL_KINDS; i++) c->left[i] = NEVER;
     c->check_at = c->turn_at = NEVER;
+    c->top = NO_CALL;
     make_machine(c);
     return c;
 }

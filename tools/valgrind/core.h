@@ -8,9 +8,11 @@
 #include "machine.h"
 
 #define NEVER (1LL << 62)
+#define NO_CALL (~0UL) /* no stack pointer is above it */
 
 typedef struct block block;
 typedef struct tape tape;
+typedef struct frames frames;
 
 typedef struct {
     ULong counts[ALL_KINDS];
@@ -24,6 +26,7 @@ typedef struct {
     Bool is_nobodys;     /* what runs here is not counted */
     cache l1d, l1i, l2, dtlb, itlb;
     predictor branches;
+    Addr repeated[2];    /* the lines, from 1 on, at which the two operands of an instruction that repeats itself are; 0 for none */
 
     UInt number; /* the first thread is 0, and each gets the next number when it begins */
     Bool is_used, is_in_library, is_stopped;
@@ -32,6 +35,8 @@ typedef struct {
     ULong at_stop[ALL_KINDS], dropped[ALL_KINDS]; /* the counts when the thread stopped, and what happened while it was */
     Long left_at_stop[KL_KINDS];
     tape *tape;
+    Addr top; /* the stack pointer of the innermost followed call (frames.h), NO_CALL without one */
+    frames *frames;
 } core;
 
 /* Where parts of a core begin that have their sizes from the tool's words. */

@@ -12,6 +12,8 @@
 #include "block.h"
 #include "code.h"
 #include "core.h"
+#include "decode.h"
+#include "functions.h"
 #include "output.h"
 #include "requests.h"
 #include "sleep.h"
@@ -25,6 +27,9 @@ enum { AT_NULL = 0, AT_ENTRY = 9, AT_RANDOM = 25 };
 
 #define PADDING "KISTALUB_PADDING="
 #define RANDOM_BYTES 16
+#define LONGEST_PATH 4096 /* the system takes no longer one */
+#define FIRST_BYTES 4
+#define LONGEST_LINE 200
 
 /* -- the program's beginning -- */
 
@@ -57,6 +62,7 @@ void program_is_loaded(void) {
     Addr entry = read_stack((const UWord *)VG_(get_SP)(tid)), base = words.entry ? entry - words.entry : 0;
     streams_begin(base);
     if (words.from_entry) counting_from = entry;
+    functions_begin(entry);
     if (words.from) counting_from = words.from + base;
 }
 
@@ -109,6 +115,22 @@ static void child_begins(ThreadId tid) {
 
 static Bool is_exec(UInt number) { return number == __NR_execve || number == __NR_execveat; }
 
+/* The program's text at an address, without what would end a line: False if it is not all there. */
+static Bool read_text(Addr from, HChar *to, SizeT size) {
+    for (SizeT i = 0; i < size; i++, from++) {
+        if ((!i || !(from & (VKI_PAGE_SIZE - 1))) && !VG_(am_is_valid_for_client)(from, 1, VKI_PROT_READ)) return False;
+        HChar byte = *(const HChar *)from;
+        to[i] = byte > 0 && byte < ' ' ? '?' : byte;
+        if (!byte) return True;
+    }
+    return False;
+}
+
+static void tell_exec(Addr path) {
+    HChar text[LONGEST_PATH];
+    if (read_text(path, text, sizeof text)) report("exec %s", text);
+}
+
 /* If another program takes the place of this one, nothing more is known of it. */
 void system_call_begins(ThreadId tid, UInt number, UWord *arguments, UInt count) {
     (void)count;
@@ -117,7 +139,7 @@ void system_call_begins(ThreadId tid, UInt number, UWord *arguments, UInt count)
     core *c = core_of(tid);
     if (c && c->tape) tape_flushes(c);
     totals_before_exec();
-    report("exec %s", (const HChar *)arguments[number == __NR_execveat]);
+    tell_exec(arguments[number == __NR_execveat]);
 }
 
 void system_call_ended(ThreadId tid, UInt number, UWord *arguments, UInt count, SysRes result) {
@@ -151,6 +173,20 @@ void signal_comes(ThreadId tid, Int number, Bool is_on_other_stack) {
 void forget_block(Addr first, VexGuestExtents extents) {
     (void)extents;
     block_forget(first);
+}
+
+void instruction_is_refused(Addr pc) {
+    static Bool is_told;
+    UChar bytes[FIRST_BYTES] = {0};
+    for (Addr i = 0; i < FIRST_BYTES && VG_(am_is_valid_for_client)(pc + i, 1, VKI_PROT_READ); i++) bytes[i] = ((const UChar *)pc)[i];
+    if (is_told || is_undefined_by_intent(bytes)) return;
+    is_told = True;
+    const HChar *form = is_of_avx512(bytes) ? "the instruction at 0x%lx is one of AVX-512, which Valgrind does not have: compile with -mno-avx512f"
+                                            : "Valgrind does not have the instruction at 0x%lx";
+    HChar line[LONGEST_LINE];
+    VG_(snprintf)(line, sizeof line, form, pc);
+    if (words.report >= 0) report("refused %s", line);
+    else VG_(printf)("papi: %s\n", line);
 }
 
 /* The PAPI library that a program takes may be another one than ours. */

@@ -8,6 +8,7 @@
 
 #include "decode.h"
 #include "events.h"
+#include "frames.h"
 #include "operands.h"
 #include "slots.h"
 #include "thresholds.h"
@@ -16,12 +17,25 @@
 Addr library_first, library_end, counting_from;
 Bool has_library;
 
+#define OPERANDS_OF_REP 2
+#define LINE_BITS 6
+
 static UInt kind_of_class(const code *c) { return c->class & CLASS_BITS; }
 static Bool is_conditional(const code *c) { return c->is_counted && kind_of_class(c) == CONDITIONAL; }
 static Bool is_branch(const code *c) { return kind_of_class(c) >= CONDITIONAL && kind_of_class(c) <= RETURN; }
 static Bool is_of_library(Addr pc) { return pc >= library_first && pc < library_end; }
 
 /* -- instructions -- */
+
+/* Where an instruction that repeats itself ends, the next one begins a line anew. */
+static void forgets_lines(code *c, IRExpr *guard) {
+    for (UInt i = 0; i < OPERANDS_OF_REP && words.has_rep_lines; i++) {
+        ULong at = OFFSET(repeated) + 8UL * i;
+        IRExpr *none = code_word(0);
+        if (guard) none = code_make(c, Ity_I64, IRExpr_ITE(guard, none, code_load_at(c, at)));
+        code_store_at(c, at, none);
+    }
+}
 
 static void branch_ends(code *c, Bool is_known, Addr next) {
     static const UChar kinds[] = {[JUMP] = KL_JUMPS, [CALL] = KL_CALLS, [RETURN] = KL_RETURNS};
@@ -43,6 +57,7 @@ static void instruction_ends(code *c, Bool is_known, Addr next) {
     if (c->class & REPEATS && is_known && next == c->pc + c->size) {
         code_happens(c, KL_INSTRUCTIONS, 1);
         if (words.has_further) code_happens(c, REPEATED, 1);
+        forgets_lines(c, NULL);
     }
     branch_ends(c, is_known, next);
 }
@@ -68,8 +83,10 @@ static void instruction_begins(code *c, Addr pc, UInt size) {
     c->pc = pc;
     c->size = size;
     c->is_branch_seen = False;
+    c->loads = 0;
     begins_here(c);
     if (!c->is_counted) return;
+    code_enters_function(c);
     code_begins(c);
     code_checks_behind(c, pc);
     c->class = class_of_bytes((const UChar *)pc, size);
@@ -114,6 +131,7 @@ static void leave(code *c, IRStmt *exit) {
         if (c->class & REPEATS && !leaves_taken) {
             code_may_happen(c, KL_INSTRUCTIONS, guard);
             if (words.has_further) code_may_happen(c, REPEATED, guard);
+            forgets_lines(c, guard);
         }
         code_leaves_line_open(c, guard, c->class & REPEATS && to == c->pc);
     }
@@ -129,9 +147,22 @@ static void count_access(code *c, const access *a, UInt kind) {
     else code_happens(c, kind, 1);
 }
 
+/* An access in the line in which the last turn had one is none. What is stored has the second place. */
+static void guards_by_line(code *c, access *a) {
+    UInt place = a->loads ? c->loads++ : 1;
+    if (place >= OPERANDS_OF_REP) return;
+    ULong first = OFFSET(repeated), at = first + 8UL * place;
+    IRExpr *number = code_shifted(c, Iop_Shr64, a->address, LINE_BITS);
+    IRExpr *line = code_two(c, Iop_Add64, number, code_word(1));
+    a->guard = code_is(c, Iop_CmpNE64, line, code_load_at(c, at));
+    code_store_at(c, at, line);
+    if (a->stores) code_store_at(c, first + 8, line);
+}
+
 /* Adds what an access counts. */
-static void see_access(code *c, const access *a) {
+static void see_access(code *c, access *a) {
     if (!c->is_counted || (!a->loads && !a->stores)) return;
+    if (words.has_rep_lines && c->class & REPEATS) guards_by_line(c, a);
     if (a->loads) count_access(c, a, KL_LOADS);
     if (a->stores) count_access(c, a, KL_STORES);
     if (words.has_further && a->loads && a->stores) code_happens(c, MODIFIES, 1);
@@ -170,8 +201,10 @@ static void block_ends(code *c, const IRSB *in) {
     Bool is_known = in->next->tag == Iex_Const;
     Addr next = is_known ? (Addr)in->next->Iex.Const.con->Ico.U64 : 0;
     instruction_ends(c, is_known, next);
+    if (in->jumpkind == Ijk_NoDecode) code_call(c, NULL, "instruction_is_refused", instruction_is_refused, mkIRExprVec_1(code_word(next)));
     if (c->is_counted) code_leaves_line_open(c, NULL, c->class & REPEATS && is_known && next == c->pc);
     code_flushes(c);
+    code_leaves_functions(c, in);
     code_checks_beginning(c);
     if (in->jumpkind == Ijk_Yield) ends_turn(c);
     keep_shares(c);

@@ -9,6 +9,7 @@
 #include "pub_tool_vki.h"
 #include "pub_tool_xarray.h"
 
+#include "frames.h"
 #include "output.h"
 #include "requests.h"
 #include "words.h"
@@ -90,13 +91,13 @@ void totals_begin(void) {
 
 static void put_thread(const thread_totals *t) {
     for (UInt i = 0; i < ALL_KINDS; i++)
-        if (t->counts[i] && kind_names[i] && counts_kind(i))
+        if ((t->counts[i] && kind_names[i] && counts_kind(i)) || i == KL_INSTRUCTIONS)
             put_line("thread %u %s %llu", t->number, kind_names[i], t->counts[i]);
 }
 
 static thread_totals totals_of(const core *c) {
     thread_totals t = {.number = c->number};
-    core_sums(c, t.counts);
+    frames_counts(c, t.counts);
     for (Word i = 0; i < VG_(sizeXA)(before); i++) {
         const thread_totals *b = VG_(indexXA)(before, i);
         if (b->number != t.number) continue;
@@ -120,6 +121,8 @@ static void put_all(void) {
         thread_totals t = totals_of(c);
         put_thread(&t);
     }
+    for (UInt i = 0; i < functions_names(); i++)
+        put_line("function %u %llu", i, functions_calls(i));
     put_line("calls %llu\nchildren %u", calls_made(), children);
 }
 
@@ -138,6 +141,7 @@ void totals_of_child(void) {
     VG_(free)(process);
     process = now;
     forks = children = 0;
+    functions_forget_calls();
     VG_(close)(file);
     VG_(dropTailXA)(ended, VG_(sizeXA)(ended));
     VG_(dropTailXA)(before, VG_(sizeXA)(before));
@@ -145,7 +149,7 @@ void totals_of_child(void) {
         const core *c = core_of(tid);
         if (!c) continue;
         thread_totals t = {.number = c->number};
-        core_sums(c, t.counts);
+        frames_counts(c, t.counts);
         VG_(addToXA)(before, &t);
     }
     open_file();

@@ -5,7 +5,8 @@
  * that name, and these lines:
  *
  *     program PATH         a program begins; a byte that is none of a word of ASCII is \xNN
- *     thread N KIND COUNT  what a thread did in this program, if that is not 0
+ *     thread N KIND COUNT  what a thread did in this program; of kinds but the first if it is not 0
+ *     function NUMBER N    the calls of a function that the words name
  *     calls N              its calls of the library
  *     children N           the processes that the process made so far
  *     ended                it ended; in its place `exec` if another program is to begin, and then

@@ -4,6 +4,8 @@
 #include "pub_tool_libcprint.h"
 #include "pub_tool_options.h"
 
+#include "functions.h"
+
 #define MOST_WINDOW (1LL << 40)
 #define MOST_MHZ 1000000
 #define NO_LIMIT 0x3fffffff
@@ -93,7 +95,10 @@ static Bool take_begin(const HChar *word) {
 /* Words of whole processes. */
 static Bool take_totals(const HChar *word) {
     Long kinds;
+    const HChar *name;
     if (VG_STR_CLO(word, "--process-totals", words.totals)) {
+    } else if (VG_STR_CLO(word, "--function", name)) {
+        functions_take(name);
     } else if (VG_STR_CLO(word, "--process", words.process)) {
     } else if (VG_BHEX_CLO(word, "--kinds", kinds, 0, ~0UL)) {
         words.kinds = (ULong)kinds;
@@ -112,6 +117,8 @@ Bool words_take(const HChar *word) {
         words.predictor_bits = (Int)bits;
         return True;
     }
+    if (VG_XACT_CLO(word, "--rep=turns", words.has_rep_lines, False)) return True;
+    if (VG_XACT_CLO(word, "--rep=lines", words.has_rep_lines, True)) return True;
     if (VG_BOOL_CLO(word, "--library", words.counts_library)) return True;
     if (VG_BINT_CLO(word, "--mhz", words.mhz, 1, MOST_MHZ)) return True;
     return take_shape(word) || take_costs(word) || take_lines(word) || take_begin(word) ||
@@ -137,7 +144,8 @@ void words_print(void) {
                 "    --predictor=N            2^N counters of branches, 0 for none [14]\n"
                 "    --costs=L2,L3,MEMORY,PAGE,BRANCH   cycles beside the one of each instruction [8,38,200,20,16]\n"
                 "    --counts=yes|no          counts of all kinds, for requests [yes]\n"
-                "    --further=yes|no         also what only other tools count [no]\n"
+                "    --further=yes|no         also what only other tools count, and accesses as they see them [no]\n"
+                "    --rep=turns|lines        what an instruction with rep accesses: something in each turn, or each line once [turns]\n"
                 "    --totals=yes|no          print the counts of each thread when it ends [no]\n"
                 "    --library=yes|no         count what the library does too, to measure it [no]\n"
                 "    --tape=yes|no            gather lines of a stream [no]\n"
@@ -150,6 +158,7 @@ void words_print(void) {
                 "    --report=DESCRIPTOR      where totals and what ended the run are told\n"
                 "    --process-totals=FOLDER  where each process writes its counts when it ends\n"
                 "    --process=NAME           the process in that folder [1]\n"
+                "    --function=NAME          totals have calls of this one alone; may be repeated\n"
                 "    --kinds=0xMASK           the kinds that count, if no library asks [all]\n"
                 "    --mhz=N                  the rate of the clock, for threads that sleep [1000]\n"
                 "    --entry=0xADDRESS        the entry of the program's file: nothing before it is counted, nor changes the machine\n"

@@ -15,9 +15,10 @@ typedef struct {
     Bool has_model;   /* caches, translation buffers and the predictor */
     Bool is_partial;  /* only some kinds count: no library can be served */
     Bool has_counts;  /* of all kinds, for requests */
-    Bool has_further; /* kinds that only other tools count */
+    Bool has_further; /* kinds that only other tools count, and accesses as they see them */
     Bool has_tape;    /* lines of a stream */
     Bool is_each;     /* a line for each occurrence */
+    Bool has_rep_lines; /* an instruction that repeats itself accesses each line once, and not in each turn */
     Bool is_stopped;  /* until START */
     Bool keeps_random; /* the program has the system's random bytes, and not those of its environment's padding */
     Bool shows_totals;

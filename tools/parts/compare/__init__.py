@@ -1,0 +1,1 @@
+"""What tools/compare does: it reads what was counted twice, and compares it."""

@@ -1,0 +1,23 @@
+/* The calls of followed functions that a thread is in.
+ *
+ * A call begins where the function does, with its return address on top of the stack, and is left
+ * when the stack is shorter than that: by a return, a jump out (longjmp) or an exception. That is
+ * looked at behind returns and jumps to computed places. A function that another one jumps to is
+ * called by that one, and left with it. */
+#ifndef FRAMES_H
+#define FRAMES_H
+#include "code.h"
+#include "functions.h"
+
+/* Code for a block: at the beginning of a function, and at the end of the block. */
+void code_enters_function(code *c);
+void code_leaves_functions(code *c, const IRSB *in);
+
+/* The counts of a core in calls of followed functions, or all if none is followed. */
+void frames_counts(const core *c, ULong counts[ALL_KINDS]);
+
+/* Called by generated code, with the stack pointer. */
+void frames_enter(const function *f, Addr sp);
+void frames_leave(Addr sp);
+
+#endif

@@ -1,0 +1,149 @@
+#include "functions.h"
+
+#include "pub_tool_debuginfo.h"
+#include "pub_tool_libcbase.h"
+#include "pub_tool_mallocfree.h"
+#include "pub_tool_xarray.h"
+
+#define BUCKETS 1024
+#define RUST_SIGN "::h" /* before the sixteen digits that end a name of Rust */
+#define RUST_DIGITS 16
+
+/* Of Valgrind's core: the symbols of an object with all their names, and what a name is in its
+ * language. */
+typedef struct { Addr main; } SymAVMAs;
+extern Int VG_(DebugInfo_syms_howmany)(const DebugInfo *of);
+extern void VG_(DebugInfo_syms_getidx)(const DebugInfo *of, Int number, SymAVMAs *at, UInt *size,
+                                       const HChar **name, const HChar ***others, Bool *is_text,
+                                       Bool *is_indirect, Bool *is_global);
+extern void VG_(demangle)(Bool of_language, Bool of_tool, const HChar *name, const HChar **found);
+
+typedef struct { const HChar *name; ULong calls; } named;
+typedef struct { const DebugInfo *of; Addr begin; } object;
+
+static XArray *names, *objects; /* objects: those whose symbols were looked at */
+static function *buckets[BUCKETS];
+
+void functions_take(const HChar *name) {
+    const named n = {name, 0};
+    if (!names) names = VG_(newXA)(VG_(malloc), "functions", VG_(free), sizeof n);
+    VG_(addToXA)(names, &n);
+}
+
+UInt functions_names(void) { return names ? (UInt)VG_(sizeXA)(names) : 0; }
+Bool functions_are_named(void) { return functions_names() != 0; }
+
+static named *name_of(UInt number) { return VG_(indexXA)(names, number); }
+
+ULong functions_calls(UInt name) { return name_of(name)->calls; }
+void functions_count_call(const function *f) { name_of(f->name)->calls++; }
+
+void functions_forget_calls(void) {
+    for (UInt i = 0; i < functions_names(); i++) name_of(i)->calls = 0;
+}
+
+/* -- names -- */
+
+/* Whether a name is another one, or that with something behind it that tells versions, arguments or
+ * crates apart. */
+static Bool is_name(const HChar *full, const HChar *name) {
+    SizeT length = VG_(strlen)(name);
+    if (VG_(strncmp)(full, name, length)) return False;
+    const HChar *rest = full + length;
+    if (!*rest || *rest == '@' || *rest == '(') return True;
+    SizeT sign = sizeof RUST_SIGN - 1;
+    return !VG_(strncmp)(rest, RUST_SIGN, sign) && VG_(strlen)(rest) == sign + RUST_DIGITS;
+}
+
+/* The last part of a name without its arguments: a symbol that lacks it is not of that name. */
+static Bool may_be_name(const HChar *symbol, const HChar *name) {
+    HChar part[256];
+    const HChar *end = VG_(strchr)(name, '('), *from = name;
+    if (!end) end = name + VG_(strlen)(name);
+    for (const HChar *at = name; at < end; at++)
+        if (*at == ':' || *at == ' ' || *at == '<') from = at + 1;
+    SizeT length = (SizeT)(end - from);
+    if (length >= sizeof part) return True;
+    VG_(memcpy)(part, from, length);
+    part[length] = 0;
+    return VG_(strstr)(symbol, part) != NULL;
+}
+
+static Bool names_symbol(const HChar *name, const HChar *symbol) {
+    const HChar *full;
+    if (is_name(symbol, name)) return True;
+    if (!may_be_name(symbol, name)) return False;
+    VG_(demangle)(True, True, symbol, &full);
+    return is_name(full, name);
+}
+
+/* -- addresses -- */
+
+static UInt bucket_of(Addr pc) { return (UInt)(pc * 0x9e3779b97f4a7c15UL >> 40) % BUCKETS; }
+
+static function *find(Addr pc) {
+    function *f = buckets[bucket_of(pc)];
+    while (f && f->entry != pc) f = f->next;
+    return f;
+}
+
+static void follow(Addr pc, UInt name) {
+    function *f = find(pc);
+    if (f) {
+        f->name = name;
+        return;
+    }
+    f = VG_(malloc)("functions", sizeof *f);
+    *f = (function){pc, name, buckets[bucket_of(pc)]};
+    buckets[bucket_of(pc)] = f;
+}
+
+static void look_at_symbol(const DebugInfo *of, Int number) {
+    SymAVMAs at;
+    UInt size;
+    const HChar *name, **others;
+    Bool is_text, is_indirect, is_global;
+    VG_(DebugInfo_syms_getidx)
+    (of, number, &at, &size, &name, &others, &is_text, &is_indirect, &is_global);
+    if (!is_text) return;
+    for (UInt i = 0; i < functions_names(); i++) {
+        Bool is_named = names_symbol(name_of(i)->name, name);
+        for (const HChar **other = others; other && *other && !is_named; other++)
+            is_named = names_symbol(name_of(i)->name, *other);
+        if (is_named) follow(at.main, i);
+    }
+}
+
+void functions_begin(Addr entry) {
+    const DebugInfo *of = VG_(find_DebugInfo)(VG_(current_DiEpoch)(), entry);
+    for (UInt i = 0; i < functions_names(); i++) {
+        const HChar *name = name_of(i)->name;
+        if (!of || VG_(strncmp)(name, "0x", 2)) continue;
+        follow(VG_(strtoull16)(name, NULL) + (Addr)VG_(DebugInfo_get_text_bias)(of), i);
+    }
+}
+
+static Bool is_known(const object *o) {
+    for (Word i = 0; i < VG_(sizeXA)(objects); i++) {
+        const object *known = VG_(indexXA)(objects, i);
+        if (known->of == o->of && known->begin == o->begin) return True;
+    }
+    return False;
+}
+
+/* An object is looked at when its code is met first. */
+static void look_at_object(Addr pc) {
+    const DebugInfo *of = VG_(find_DebugInfo)(VG_(current_DiEpoch)(), pc);
+    if (!of) return;
+    const object o = {of, VG_(DebugInfo_get_text_avma)(of)};
+    if (!objects) objects = VG_(newXA)(VG_(malloc), "functions", VG_(free), sizeof o);
+    if (is_known(&o)) return;
+    VG_(addToXA)(objects, &o);
+    for (Int i = 0; i < VG_(DebugInfo_syms_howmany)(of); i++) look_at_symbol(of, i);
+}
+
+function *function_at(Addr pc) {
+    if (!functions_are_named()) return NULL;
+    look_at_object(pc);
+    return find(pc);
+}
