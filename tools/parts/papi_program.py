@@ -19,7 +19,9 @@ def prepare_program() -> None:
     script = FOLDER / "papi"
     if (
         script.exists()
-        and subprocess.run([str(script), "--compile"], stdin=subprocess.DEVNULL).returncode
+        and subprocess.run(
+            [str(script), "--compile"], stdin=subprocess.DEVNULL, stdout=subprocess.DEVNULL
+        ).returncode
     ):
         raise Fault("the program papi, which says what an event counts, is not there")
 

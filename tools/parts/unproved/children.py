@@ -6,7 +6,6 @@ from __future__ import annotations
 import ctypes
 import errno
 import os
-import shutil
 import signal
 import subprocess
 import sys
@@ -86,7 +85,7 @@ def removed_folder(prefix: Path) -> Iterator[Path]:
             )
         yield Path(folder)
     finally:
-        if folder:
-            shutil.rmtree(folder, ignore_errors=True)
         if guard is not None:
             guard.communicate()
+        elif folder:
+            os.rmdir(folder)
