@@ -2,15 +2,38 @@
 
 from __future__ import annotations
 
+import json
 import os
+import subprocess
 from typing import Any
 
 from parts.command import Fault
 from parts.compare.limits import read_limit
 from tests.comparing import HUGE, INS, MISSES, Comparing, counts, function, rank, region
-from tests.support import run_tool
+from tests.support import needs_command, run_tool
 
 from kistalub import limits  # found once tests.support is imported
+
+PAPI_REGIONS = """
+#include <papi.h>
+#include <pthread.h>
+static void *work(void *none) {
+    for (int i = 0; i < 3; i++) {
+        PAPI_hl_region_begin("inner");
+        PAPI_hl_read("inner");
+        PAPI_hl_region_end("inner");
+    }
+    return none;
+}
+int main(void) {
+    pthread_t thread;
+    PAPI_hl_region_begin("outer");
+    work(0);
+    PAPI_hl_region_end("outer");
+    pthread_create(&thread, 0, work, 0);
+    return pthread_join(thread, 0);
+}
+"""
 
 
 class Limits(Comparing):
@@ -258,6 +281,31 @@ class Regions(Comparing):
             self.assertEqual(
                 (done.returncode, done.stderr, done.stdout.splitlines()), (0, "", wanted)
             )
+
+    @needs_command("cc", "a C compiler")
+    def test_what_papi_itself_writes(self) -> None:
+        """Regions within another one, with readings, and of two threads: by PAPI 7.0's library."""
+        source, program = self.write("regions.c", PAPI_REGIONS), str(self.folder / "regions")
+        built = subprocess.run(
+            ["cc", source, "-o", program, "-lpapi", "-lpthread"], capture_output=True
+        )
+        if built.returncode:
+            self.skipTest("libpapi-dev is not installed")
+        for name in ("a", "b"):
+            events = {
+                "PAPI_OUTPUT_DIRECTORY": str(self.folder / name),
+                "PAPI_EVENTS": "perf::PAGE-FAULTS",
+            }
+            subprocess.run([program], env={**os.environ, **events}, check=True, capture_output=True)
+        if not list((self.folder / "a").rglob("rank_*.json")):
+            self.skipTest("PAPI counts nothing here")
+        done = self.run_words(
+            f"{self.folder}/a", f"{self.folder}/b", "--json", "--events", "cycles"
+        )
+        self.assertEqual((done.returncode, done.stderr), (0, ""))
+        rows = {row["name"]: row["base"] for row in json.loads(done.stdout)["rows"]}
+        self.assertEqual(list(rows), ["outer", "outer > inner", "inner"])
+        self.assertTrue(rows["outer"] > rows["outer > inner"] > 0 < rows["inner"], rows)
 
     def test_folders_that_can_not_be_used(self) -> None:
         good = rank([region("r", -1, PAPI_TOT_INS="1")])
