@@ -47,6 +47,7 @@ def count(counting: Counting, whole: Whole) -> NoReturn:
     """Runs the program under the tool, and ends as it does: what it prints, its signals and its
     status are its own. What could not be done of what was asked is a line, and the status is not 0
     then."""
+    whole.check()
     program = shutil.which(counting.program)
     if program is None:
         raise Fault(f"{counting.program}: no such program")
@@ -56,6 +57,10 @@ def count(counting: Counting, whole: Whole) -> NoReturn:
     if makes_calls and whole.is_asked() and not whole.is_beside:
         raise Fault(
             f"{counting.program} makes calls of PAPI: --whole counts it as a whole beside them"
+        )
+    if makes_calls and whole.is_profiled():
+        raise Fault(
+            f"{counting.program} makes calls of PAPI: a profile is of a program without them"
         )
     outputs = Outputs(whole)
     planned = plan(whole, environment) if whole.is_beside or not makes_calls else None
@@ -108,6 +113,7 @@ def _words(
         planned.words(counting.machine) if planned and is_partial else counting.machine.tool_words()
     )
     words += [f"--function={name}" for name in whole.functions]
+    words += ["--profile=yes"] * whole.is_profiled()
     if counting.keep:
         words += [
             "--tape=yes",

@@ -3,14 +3,14 @@
 
 from __future__ import annotations
 
-import re
 from collections import Counter
 from dataclasses import dataclass, field
 from pathlib import Path
 
+from parts.code_profile import CodeProfile, ProfileReader, text_of
 from parts.command import Fault
 
-ESCAPED = re.compile(rb"\\x([0-9a-f]{2})")
+PROFILE_WORDS = (b"code", b"line", b"call")
 
 
 @dataclass
@@ -25,6 +25,7 @@ class Process:
     calls: int = 0  # of the library
     called: Counter[int] = field(default_factory=Counter)  # named functions, by number
     children: int = 0
+    profile: CodeProfile = field(default_factory=CodeProfile)
     has_ended: bool = False  # else nothing is known of its last program
     is_refused: bool = False  # it called the library, which the run could not serve
 
@@ -40,6 +41,7 @@ class _Program:
     threads: dict[int, Counter[str]] = field(default_factory=dict)
     calls: int = 0
     called: Counter[int] = field(default_factory=Counter)
+    profile: ProfileReader = field(default_factory=ProfileReader)
     ended: str = ""
 
 
@@ -55,21 +57,18 @@ def _read(path: Path) -> Process:
     for line in path.read_bytes().splitlines():
         word, _, rest = line.partition(b" ")
         if word == b"program":
-            programs.append(
-                _Program(
-                    ESCAPED.sub(lambda match: bytes([int(match[1], 16)]), rest).decode(
-                        "utf-8", "surrogateescape"
-                    )
-                )
-            )
+            programs.append(_Program(text_of(rest)))
         elif not programs:
             raise Fault("the tool of Valgrind told nothing that can be read")
+        elif word in PROFILE_WORDS:
+            programs[-1].profile.take(word, rest)
         else:
             _take(process, programs[-1], word.decode("ascii"), rest.decode("ascii"))
     for program in programs:
         process.program = program.path
         process.calls += program.calls
         process.called += program.called
+        process.profile.add(program.profile.profile)
         process.has_ended = program.ended == "ended"
         for number, counts in program.threads.items():
             process.threads[number] = process.threads.get(number, Counter()) + counts
@@ -93,6 +92,7 @@ def _take(process: Process, program: _Program, word: str, rest: str) -> None:
     elif word == "stays":  # what was told before tells what it did up to there
         program.threads.clear()
         program.called.clear()
+        program.profile = ProfileReader()
         program.ended = ""
     else:
         program.ended = word

@@ -11,6 +11,8 @@ from pathlib import Path
 from typing import IO, Mapping, Sequence
 
 from parts.command import Fault, own_name
+from parts.callgrind_file import callgrind_text
+from parts.code_profile import CodeProfile
 from parts.codes import codes_of
 from parts.count_files import as_csv, as_json
 from parts.count_table import shown, table
@@ -19,6 +21,7 @@ from parts.kinds import Kind, kinds_with, mask_of, reduced
 from parts.machine import Machine
 from parts.papi_program import prepare_program
 from parts.processes import Process, numbered, read_processes
+from parts.profile_counts import ProfileCounts, as_further_json, profile_counts, profile_table
 from parts.whole_counts import ProcessCounts, ThreadCounts, WholeCounts, summed
 
 USUAL = (
@@ -45,6 +48,15 @@ class Whole:
     json: str | None = None
     csv: str | None = None
     functions: tuple[str, ...] = ()  # whose calls alone count
+    profile: bool = False
+    callgrind: str | None = None  # a file
+
+    def is_profiled(self) -> bool:
+        return self.profile or self.callgrind is not None
+
+    def check(self) -> None:
+        if self.is_profiled() and self.functions:
+            raise Fault("a profile is of the whole program: --function goes without it")
 
     def is_asked(self) -> bool:
         """Whether somebody wants it, whatever the program does."""
@@ -57,7 +69,8 @@ class Outputs:
 
     def __init__(self, whole: Whole):
         self.files: dict[str, IO[str]] = {}
-        for kind, name in (("table", whole.table), ("json", whole.json), ("csv", whole.csv)):
+        names = {"table": whole.table, "json": whole.json, "csv": whole.csv}
+        for kind, name in {**names, "callgrind": whole.callgrind}.items():
             if name is not None:
                 try:
                     self.files[kind] = open(
@@ -107,6 +120,11 @@ def plan(whole: Whole, named: Mapping[str, str]) -> Plan:
     kinds = kinds_with(codes_of(files.unit))
     names = USUAL if whole.events is None else whole.events.split(",")
     sums = sums_of(files, names, kinds, needs_all=whole.events is not None)
+    for each in sums:
+        if each.rule and whole.is_profiled():
+            raise Fault(
+                f"{each.name} is no sum over functions: its formula multiplies or divides counts"
+            )
     if not sums:
         raise Fault(
             f"{files.presets} has none of the usual presets for {files.cpu}: --events names others"
@@ -200,12 +218,19 @@ def tell(
         raise Fault(f"{program} never called {', '.join(never)}: nothing was counted")
     if missing and not any(process.total() for process in processes[:1]):
         raise Fault(missing)
+    planned = planned or plan(whole, named)
     counts = replace(
-        counts_of(planned or plan(whole, named), shown_ones, run.command, run.status),
+        counts_of(planned, shown_ones, run.command, run.status),
         uncounted_children=len(processes) - len(shown_ones),
         functions=whole.functions,
     )
-    _write(counts, outputs, named, machine)
+    profile = None
+    if whole.is_profiled():
+        merged = CodeProfile()
+        for process in shown_ones:
+            merged.add(process.profile)
+        profile = profile_counts(merged, planned.sums)
+    _write(counts, profile, outputs, named, machine)
     if never:
         raise Fault(f"{program} never called {', '.join(never)}")
     if missing:
@@ -213,17 +238,25 @@ def tell(
 
 
 def _write(
-    counts: WholeCounts, outputs: Outputs, named: Mapping[str, str], machine: Machine
+    counts: WholeCounts,
+    profile: ProfileCounts | None,
+    outputs: Outputs,
+    named: Mapping[str, str],
+    machine: Machine,
 ) -> None:
+    text = table(counts) + (profile_table(profile, counts.total) if profile else "")
     if "table" in outputs.files:
-        outputs.write("table", table(counts))
+        outputs.write("table", text)
     else:
-        sys.stderr.write(table(counts))
+        sys.stderr.write(text)
     if counts.uncounted_children:
         number = counts.uncounted_children
         processes = "1 child process" if number == 1 else f"{number:,} child processes"
         sys.stderr.write(f"{own_name()}: {processes} not counted (--children counts them too)\n")
     if "json" in outputs.files:
-        outputs.write("json", as_json(counts, named, machine))
+        further = as_further_json(profile) if profile else {}
+        outputs.write("json", as_json(counts, named, machine, further))
     if "csv" in outputs.files:
         outputs.write("csv", as_csv(counts))
+    if "callgrind" in outputs.files and profile:
+        outputs.write("callgrind", callgrind_text(counts, profile))

@@ -14,7 +14,8 @@ def add_whole(parser: argparse.ArgumentParser) -> None:
         "--events",
         metavar="E,..",
         help="count these events, by the names of the unit, presets and user events, with commas "
-        "between them (instructions, cycles, loads, stores, misses of the first and the last level, "
+        "between them (instructions, cycles, loads, stores, misses of the first and the last "
+        "level, "
         "branches, mispredicted ones, floating-point operations)",
     )
     whole.add_argument(
@@ -24,7 +25,19 @@ def add_whole(parser: argparse.ArgumentParser) -> None:
         action="append",
         default=[],
         help="count what happens in calls of this function alone, from each call to its return, "
-        "with what it calls; may be repeated. 0xADDRESS names one by its address in the program's file",
+        "with what it calls; may be repeated. 0xADDRESS names one by its address in the program's "
+        "file",
+    )
+    whole.add_argument(
+        "--profile",
+        action="store_true",
+        help="count each function and each line of source too: what it does by itself, and "
+        "functions with what they call",
+    )
+    whole.add_argument(
+        "--callgrind",
+        metavar="FILE",
+        help="write the profile in callgrind's format too, for callgrind_annotate and KCachegrind",
     )
     whole.add_argument(
         "--whole",
@@ -40,8 +53,8 @@ def add_whole(parser: argparse.ArgumentParser) -> None:
         "-o",
         metavar="FILE",
         dest="table",
-        help="write the table to this file, in place of standard error; %%r stands for the rank of a "
-        "process of MPI in the names of all three files",
+        help="write the table to this file, in place of standard error; %%r stands for the rank of "
+        "a process of MPI in the names of all files",
     )
     whole.add_argument(
         "--json", metavar="FILE", help="write the counts as JSON too (docs/FORMATS.md)"
@@ -50,8 +63,17 @@ def add_whole(parser: argparse.ArgumentParser) -> None:
 
 
 def whole_of(words: argparse.Namespace) -> Whole:
-    files = (
-        None if name is None else of_rank(name) for name in (words.table, words.json, words.csv)
+    def named(file: str | None) -> str | None:
+        return None if file is None else of_rank(file)
+
+    return Whole(
+        is_beside=words.whole,
+        events=words.events,
+        children=words.children,
+        table=named(words.table),
+        json=named(words.json),
+        csv=named(words.csv),
+        functions=tuple(dict.fromkeys(words.functions)),
+        profile=words.profile,
+        callgrind=named(words.callgrind),
     )
-    functions = tuple(dict.fromkeys(words.functions))
-    return Whole(words.whole, words.events, words.children, *files, functions)

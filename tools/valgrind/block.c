@@ -3,6 +3,7 @@
 #include "pub_tool_libcbase.h"
 #include "pub_tool_mallocfree.h"
 
+#include "profile.h"
 #include "tape.h"
 
 #define FIRST_BUCKETS 4096
@@ -45,6 +46,7 @@ static void forget(Addr pc, Bool is_close) {
     if (!at || !*at) return;
     block *b = *at;
     leave_block(b);
+    profile_takes_block(b);
     *at = b->next;
     blocks--;
     for (chunk *c = b->chunks, *next; c; c = next) {
@@ -55,6 +57,11 @@ static void forget(Addr pc, Bool is_close) {
 }
 
 void block_forget(Addr pc) { forget(pc, False); }
+
+void blocks_each(void (*f)(block *b)) {
+    for (UInt i = 0; buckets && i <= last_bucket; i++)
+        for (block *b = buckets[i]; b; b = b->next) f(b);
+}
 
 block *new_block(Addr pc, Bool is_close) {
     forget(pc, is_close);

@@ -16,12 +16,15 @@ struct block {
     instruction *instructions;
     share *shares;
     struct chunk *chunks;
+    struct line **lines;      /* of its instructions, for a profile (profile.h) */
+    struct counter *counters;
     block *next;
 };
 
 /* Makes what is known of the block that begins at `pc`, in place of what was known. One of close code is kept until there is another one: Valgrind does not tell when that code is gone. */
 block *new_block(Addr pc, Bool is_close);
 void block_forget(Addr pc);
+void blocks_each(void (*f)(block *b));
 
 /* Memory that is kept as long as the block. */
 void *block_memory(block *b, SizeT size);

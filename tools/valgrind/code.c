@@ -6,6 +6,7 @@
 #include "pub_tool_machine.h"
 #include "pub_tool_mallocfree.h"
 
+#include "profile.h"
 #include "tape.h"
 #include "slots.h"
 #include "thresholds.h"
@@ -72,6 +73,7 @@ void code_may_happen(code *c, UInt kind, IRExpr *guard) {
     if (!is_kept(kind)) return;
     IRExpr *times = code_widened(c, guard);
     code_add_at(c, count_of(kind), times);
+    code_profiles_guard(c, kind, times);
     if (kind < KL_KINDS) c->most[kind]++;
     if (counts_down(kind)) takes_from_left(c, kind, times);
     if (kind == KL_INSTRUCTIONS && is_armed[KL_CYCLES]) takes_from_left(c, KL_CYCLES, times);
@@ -81,6 +83,8 @@ void code_may_happen(code *c, UInt kind, IRExpr *guard) {
 static UInt counted_for(UInt kind) { return kind == KL_CYCLES ? KL_INSTRUCTIONS : kind; }
 
 void code_flushes(code *c) {
+    for (UInt kind = 0, found = 0; kind < ALL_KINDS && !found; kind++)
+        if (c->pending[kind]) code_profiles_segment(c), found = 1;
     for (UInt i = 0; i < armed_count; i++) {
         Int amount = c->pending[counted_for(armed_kinds[i])];
         if (amount) takes_from_left(c, armed_kinds[i], code_word((ULong)(Long)amount));

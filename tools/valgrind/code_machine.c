@@ -2,6 +2,7 @@
  * is on the tape beside it shares that call. */
 #include "code.h"
 #include "model.h"
+#include "profile.h"
 #include "words.h"
 
 static site *new_site(code *c, UInt size, UInt side) {
@@ -122,6 +123,7 @@ static void count_outcome(code *c, IRExpr *taken) {
     IRExpr *at = code_two(c, Iop_Add64, code_two(c, Iop_Add64, c->base, offset), first);
     IRExpr *count = code_two(c, Iop_Add64, code_load(c, at), code_word(1));
     addStmtToIRSB(c->out, IRStmt_Store(Iend_LE, at, count));
+    code_profiles_outcome(c, offset);
 }
 
 void code_branches(code *c, IRExpr *taken) {

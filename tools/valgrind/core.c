@@ -5,6 +5,7 @@
 #include "pub_tool_mallocfree.h"
 
 #include "output.h"
+#include "profile.h"
 #include "slots.h"
 #include "tape.h"
 #include "words.h"
@@ -86,8 +87,7 @@ void core_thread_begins(ThreadId tid) {
     if (words.is_stopped) core_stops(c);
 }
 
-void core_sums(const core *c, ULong all[ALL_KINDS]) {
-    for (UInt i = 0; i < ALL_KINDS; i++) all[i] = c->counts[i];
+void kinds_add_up(ULong all[ALL_KINDS]) {
     all[KL_TAKEN] += all[LEFT_TAKEN] - all[STAYED_NOT_TAKEN] + all[STAYED_TAKEN];
     all[KL_NOT_TAKEN] += all[LEFT_NOT_TAKEN] - all[STAYED_TAKEN] + all[STAYED_NOT_TAKEN];
     all[KL_TAKEN] += all[RIGHT_TAKEN] + all[WRONG_TAKEN];
@@ -96,6 +96,11 @@ void core_sums(const core *c, ULong all[ALL_KINDS]) {
     all[KL_ERRED_NOT_TAKEN] += all[WRONG_NOT_TAKEN];
     all[KL_STALLS] += words.costs[BRANCH_ERRED] * (all[WRONG_TAKEN] + all[WRONG_NOT_TAKEN]);
     all[KL_CYCLES] += all[KL_INSTRUCTIONS] + all[KL_STALLS];
+}
+
+void core_sums(const core *c, ULong all[ALL_KINDS]) {
+    for (UInt i = 0; i < ALL_KINDS; i++) all[i] = c->counts[i];
+    kinds_add_up(all);
 }
 
 void core_thread_ends(ThreadId tid) {
@@ -119,6 +124,7 @@ Bool counting_has_begun(void) { return has_begun; }
 
 void counting_begins(void) {
     has_begun = !is_over;
+    profile_forgets();
     set_current(running);
 }
 

@@ -80,6 +80,10 @@ void core_counts(const core *c, ULong counts[ALL_KINDS]);
 /* All counts of a core so far, with those that are sums of others, whether it was stopped or not;
  * and those of all threads. */
 void core_sums(const core *c, ULong all[ALL_KINDS]);
+
+/* Adds what is counted in other kinds to those that have a name. */
+void kinds_add_up(ULong all[ALL_KINDS]);
+
 void all_counts(ULong all[ALL_KINDS]);
 
 /* The cycles of a core, and of all threads, whether they counted or not. */

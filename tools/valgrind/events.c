@@ -15,6 +15,7 @@
 #include "decode.h"
 #include "functions.h"
 #include "output.h"
+#include "profile.h"
 #include "requests.h"
 #include "sleep.h"
 #include "tape.h"
@@ -159,7 +160,11 @@ static void count_up_to(core *c, const block *b, Addr pc) {
     if (number == b->count) return;
     UInt segment = b->instructions[number].segment;
     for (UInt i = 0; i < b->shares_count; i++)
-        if (b->shares[i].segment == segment && b->shares[i].instruction < number) core_takes(c, b->shares[i].kind, b->shares[i].amount);
+        if (b->shares[i].segment == segment && b->shares[i].instruction < number) {
+            const share *s = b->shares + i;
+            core_takes(c, s->kind, s->amount);
+            profile_adds(b, s->instruction, s->kind, (ULong)(Long)s->amount);
+        }
     if (c->tape) tape_sees_fault(c, b, number);
 }
 

@@ -16,8 +16,15 @@ void code_leaves_functions(code *c, const IRSB *in);
 /* The counts of a core in calls of followed functions, or all if none is followed. */
 void frames_counts(const core *c, ULong counts[ALL_KINDS]);
 
+/* Adds what open calls did so far to the profile, or takes that away; lets them begin here. */
+void frames_settle(const core *c, Bool adds);
+void frames_begin_anew(core *c);
+
+/* The thread ends, and all its calls. */
+void frames_end(core *c);
+
 /* Called by generated code, with the stack pointer. */
-void frames_enter(const function *f, Addr sp);
+void frames_enter(function *f, Addr sp);
 void frames_leave(Addr sp);
 
 #endif

@@ -1,11 +1,15 @@
 #include "functions.h"
 
+#include "pub_tool_aspacemgr.h"
 #include "pub_tool_debuginfo.h"
 #include "pub_tool_libcbase.h"
 #include "pub_tool_mallocfree.h"
+#include "pub_tool_vki.h"
 #include "pub_tool_xarray.h"
 
-#define BUCKETS 1024
+#include "words.h"
+
+#define BUCKETS 16384
 #define RUST_SIGN "::h" /* before the sixteen digits that end a name of Rust */
 #define RUST_DIGITS 16
 
@@ -16,6 +20,7 @@ extern Int VG_(DebugInfo_syms_howmany)(const DebugInfo *of);
 extern void VG_(DebugInfo_syms_getidx)(const DebugInfo *of, Int number, SymAVMAs *at, UInt *size,
                                        const HChar **name, const HChar ***others, Bool *is_text,
                                        Bool *is_indirect, Bool *is_global);
+extern Bool VG_(get_inst_offset_in_function)(DiEpoch epoch, Addr pc, PtrdiffT *offset);
 extern void VG_(demangle)(Bool of_language, Bool of_tool, const HChar *name, const HChar **found);
 
 typedef struct { const HChar *name; ULong calls; } named;
@@ -32,6 +37,7 @@ void functions_take(const HChar *name) {
 
 UInt functions_names(void) { return names ? (UInt)VG_(sizeXA)(names) : 0; }
 Bool functions_are_named(void) { return functions_names() != 0; }
+Bool functions_are_followed(void) { return functions_are_named() || words.has_profile; }
 
 static named *name_of(UInt number) { return VG_(indexXA)(names, number); }
 
@@ -87,15 +93,17 @@ static function *find(Addr pc) {
     return f;
 }
 
+static function *new_function(Addr pc) {
+    static UInt count;
+    function *f = VG_(calloc)("functions", 1, sizeof *f);
+    *f = (function){.entry = pc, .number = count++, .next = buckets[bucket_of(pc)]};
+    return buckets[bucket_of(pc)] = f;
+}
+
 static void follow(Addr pc, UInt name) {
     function *f = find(pc);
-    if (f) {
-        f->name = name;
-        return;
-    }
-    f = VG_(malloc)("functions", sizeof *f);
-    *f = (function){pc, name, buckets[bucket_of(pc)]};
-    buckets[bucket_of(pc)] = f;
+    if (!f) f = new_function(pc);
+    f->name = name;
 }
 
 static void look_at_symbol(const DebugInfo *of, Int number) {
@@ -116,6 +124,7 @@ static void look_at_symbol(const DebugInfo *of, Int number) {
 
 void functions_begin(Addr entry) {
     const DebugInfo *of = VG_(find_DebugInfo)(VG_(current_DiEpoch)(), entry);
+    if (words.has_profile) function_called(entry);
     for (UInt i = 0; i < functions_names(); i++) {
         const HChar *name = name_of(i)->name;
         if (!of || VG_(strncmp)(name, "0x", 2)) continue;
@@ -142,7 +151,112 @@ static void look_at_object(Addr pc) {
     for (Int i = 0; i < VG_(DebugInfo_syms_howmany)(of); i++) look_at_symbol(of, i);
 }
 
+/* -- all functions, for a profile -- */
+
+static XArray *targets; /* of calls, without symbols, by their addresses */
+
+static Int compare(const void *one, const void *other) {
+    Addr a = *(const Addr *)one, b = *(const Addr *)other;
+    return a < b ? -1 : a > b;
+}
+
+static Bool begins_symbol(Addr pc, Addr *begin) {
+    PtrdiffT offset;
+    if (!VG_(get_inst_offset_in_function)(VG_(current_DiEpoch)(), pc, &offset)) return False;
+    *begin = pc - (Addr)offset;
+    return True;
+}
+
+static Bool is_target(Addr pc) {
+    Word first, last;
+    return targets && VG_(lookupXA)(targets, &pc, &first, &last);
+}
+
+static const HChar *copied(const HChar *name) { return VG_(strdup)("functions", name); }
+
+const HChar *source_of(Addr pc, UInt *number) {
+    static HChar *last;
+    const HChar *file, *folder;
+    *number = 0;
+    if (!VG_(get_filename_linenum)(VG_(current_DiEpoch)(), pc, &file, &folder, number)) return NULL;
+    HChar *name = VG_(malloc)("functions", VG_(strlen)(folder) + VG_(strlen)(file) + 2);
+    VG_(sprintf)(name, "%s%s%s", folder, *folder && *file != '/' ? "/" : "", file);
+    if (!last || VG_(strcmp)(last, name)) return last = name;
+    VG_(free)(name);
+    return last;
+}
+
+static function *profiled(Addr entry, Addr pc) {
+    const HChar *name;
+    function *f = find(entry);
+    if (f) return f;
+    f = new_function(entry);
+    const DebugInfo *of = VG_(find_DebugInfo)(VG_(current_DiEpoch)(), pc);
+    if (of) f->bias = (Addr)VG_(DebugInfo_get_text_bias)(of);
+    if (VG_(get_objname)(VG_(current_DiEpoch)(), pc, &name)) f->object = copied(name);
+    if (VG_(get_fnname)(VG_(current_DiEpoch)(), pc, &name)) f->symbol = copied(name);
+    f->file = source_of(entry, &f->line);
+    return f;
+}
+
+/* A stub of a table of linkage: a jump to what stands in memory, perhaps behind an endbr64. It is a
+ * part of the call. */
+static Bool is_stub(Addr pc) {
+    const UChar *at = (const UChar *)pc;
+    static const UChar endbr64[] = {0xF3, 0x0F, 0x1E, 0xFA};
+    if (!VG_(am_is_valid_for_client)(pc, 16, VKI_PROT_READ)) return False;
+    if (!VG_(memcmp)(at, endbr64, sizeof endbr64)) at += sizeof endbr64;
+    if (*at == 0xF2) at++;
+    return at[0] == 0xFF && at[1] == 0x25;
+}
+
+function *function_called(Addr pc) {
+    Addr begin;
+    if (begins_symbol(pc, &begin) || is_stub(pc)) return NULL;
+    if (!is_target(pc)) {
+        if (!targets) {
+            targets = VG_(newXA)(VG_(malloc), "functions", VG_(free), sizeof pc);
+            VG_(setCmpFnXA)(targets, compare);
+        }
+        VG_(addToXA)(targets, &pc);
+        VG_(sortXA)(targets);
+    }
+    return profiled(pc, pc);
+}
+
+/* The last target of calls up to an address in the same object, or the object's beginning. */
+static Addr target_before(Addr pc) {
+    const DebugInfo *of = VG_(find_DebugInfo)(VG_(current_DiEpoch)(), pc);
+    Addr first = of ? VG_(DebugInfo_get_text_avma)(of) : pc & ~(Addr)4095;
+    for (Word i = targets ? VG_(sizeXA)(targets) : 0; i > 0; i--) {
+        Addr target = *(const Addr *)VG_(indexXA)(targets, i - 1);
+        if (target <= pc && target >= first) return target;
+        if (target < first) break;
+    }
+    return first;
+}
+
+function *function_of(Addr pc) {
+    Addr begin;
+    if (!begins_symbol(pc, &begin)) begin = target_before(pc);
+    return profiled(begin, pc);
+}
+
+void functions_each(void (*f)(function *of)) {
+    for (UInt i = 0; i < BUCKETS; i++)
+        for (function *of = buckets[i]; of; of = of->next) f(of);
+}
+
+void function_forgets(function *f) {
+    f->calls = 0;
+    VG_(memset)(f->inclusive, 0, sizeof f->inclusive);
+}
+
 function *function_at(Addr pc) {
+    Addr begin;
+    if (words.has_profile) {
+        return begins_symbol(pc, &begin) && begin == pc ? profiled(pc, pc) : NULL;
+    }
     if (!functions_are_named()) return NULL;
     look_at_object(pc);
     return find(pc);

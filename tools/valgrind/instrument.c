@@ -10,6 +10,7 @@
 #include "events.h"
 #include "frames.h"
 #include "operands.h"
+#include "profile.h"
 #include "slots.h"
 #include "thresholds.h"
 #include "words.h"
@@ -86,6 +87,7 @@ static void instruction_begins(code *c, Addr pc, UInt size) {
     c->loads = 0;
     begins_here(c);
     if (!c->is_counted) return;
+    profile_sees_instruction(c);
     code_enters_function(c);
     code_begins(c);
     code_checks_behind(c, pc);
@@ -182,6 +184,7 @@ static block *block_of(Addr pc, const IRSB *sb) {
         if (!b->count++) first = s->Ist.IMark.addr, size = s->Ist.IMark.len;
     }
     b->instructions = block_memory(b, b->count * sizeof *b->instructions);
+    profile_begins_block(b);
     b->begins_repeated = b->count && class_of_bytes((const UChar *)first, size) & REPEATS;
     return b;
 }

@@ -18,7 +18,7 @@ ULong calls_made(void) { return calls; }
 
 static UWord greet(Addr first, Addr end, Addr to_stub) {
     stub = to_stub;
-    if (words.is_partial) totals_refuse();
+    if (words.is_partial || words.has_profile) totals_refuse();
     if (!has_library) VG_(discard_translations_safely)(0, ~(SizeT)0, "outcomes");
     has_library = True;
     if (words.counts_library) return KL_VERSION;

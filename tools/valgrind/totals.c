@@ -11,11 +11,13 @@
 
 #include "frames.h"
 #include "output.h"
+#include "profile.h"
 #include "requests.h"
 #include "words.h"
 
 #define LONGEST_LINE 4096
 #define PROCESS_WORD "--process="
+#define GATHERED 65536
 
 typedef struct { UInt number; ULong counts[ALL_KINDS]; } thread_totals;
 
@@ -107,10 +109,44 @@ static thread_totals totals_of(const core *c) {
 }
 
 void totals_of_thread(ThreadId tid) {
-    const core *c = core_of(tid);
+    core *c = core_of(tid);
     if (file < 0 || !c) return;
+    frames_end(c);
     thread_totals t = totals_of(c);
     VG_(addToXA)(ended, &t);
+}
+
+/* -- the profile -- */
+
+static HChar *gathered;
+static UInt gathered_length;
+
+static void write_gathered(void) {
+    Int length = (Int)gathered_length;
+    if (length && VG_(write)(file, gathered, length) != length)
+        fail("the counts can't be written");
+    gathered_length = 0;
+}
+
+static void gather(const HChar *text) {
+    UInt length = (UInt)VG_(strlen)(text);
+    if (gathered_length + length > GATHERED) write_gathered();
+    VG_(memcpy)(gathered + gathered_length, text, length);
+    gathered_length += length;
+}
+
+static void settle_all(Bool adds) {
+    for (ThreadId tid = 1; tid < VG_N_THREADS; tid++)
+        if (core_of(tid)) frames_settle(core_of(tid), adds);
+}
+
+static void put_profile(void) {
+    if (!words.has_profile) return;
+    if (!gathered) gathered = VG_(malloc)("totals", GATHERED);
+    settle_all(True);
+    profile_writes(gather);
+    write_gathered();
+    settle_all(False);
 }
 
 static void put_all(void) {
@@ -124,6 +160,7 @@ static void put_all(void) {
     for (UInt i = 0; i < functions_names(); i++)
         put_line("function %u %llu", i, functions_calls(i));
     put_line("calls %llu\nchildren %u", calls_made(), children);
+    put_profile();
 }
 
 void totals_before_fork(ThreadId tid) {
@@ -142,6 +179,9 @@ void totals_of_child(void) {
     process = now;
     forks = children = 0;
     functions_forget_calls();
+    profile_forgets();
+    for (ThreadId tid = 1; tid < VG_N_THREADS; tid++)
+        if (core_of(tid)) frames_begin_anew(core_of(tid));
     VG_(close)(file);
     VG_(dropTailXA)(ended, VG_(sizeXA)(ended));
     VG_(dropTailXA)(before, VG_(sizeXA)(before));

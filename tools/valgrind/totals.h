@@ -8,6 +8,13 @@
  *     thread N KIND COUNT  what a thread did in this program; of kinds but the first if it is not 0
  *     function NUMBER N    the calls of a function that the words name
  *     calls N              its calls of the library
+ *     code NUMBER ENTRY OBJECT SYMBOL FILE LINE CALLS [KIND COUNT]..
+ *                          for a profile: a function, how often it was called, and what it did with
+ *                          all that it called; a name that is not known is \
+ *     line FUNCTION LINE FILE [KIND COUNT]..
+ *                          what a line did by itself; line 0 of a function without any
+ *     call FUNCTION LINE FILE FUNCTION CALLS [KIND COUNT]..
+ *                          calls from a line to a function
  *     children N           the processes that the process made so far
  *     ended                it ended; in its place `exec` if another program is to begin, and then
  *                          `stays` if none did

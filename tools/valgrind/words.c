@@ -99,6 +99,7 @@ static Bool take_totals(const HChar *word) {
     if (VG_STR_CLO(word, "--process-totals", words.totals)) {
     } else if (VG_STR_CLO(word, "--function", name)) {
         functions_take(name);
+    } else if (VG_BOOL_CLO(word, "--profile", words.has_profile)) {
     } else if (VG_STR_CLO(word, "--process", words.process)) {
     } else if (VG_BHEX_CLO(word, "--kinds", kinds, 0, ~0UL)) {
         words.kinds = (ULong)kinds;
@@ -159,6 +160,7 @@ void words_print(void) {
                 "    --process-totals=FOLDER  where each process writes its counts when it ends\n"
                 "    --process=NAME           the process in that folder [1]\n"
                 "    --function=NAME          totals have calls of this one alone; may be repeated\n"
+                "    --profile=yes|no         also what functions and lines did [no]\n"
                 "    --kinds=0xMASK           the kinds that count, if no library asks [all]\n"
                 "    --mhz=N                  the rate of the clock, for threads that sleep [1000]\n"
                 "    --entry=0xADDRESS        the entry of the program's file: nothing before it is counted, nor changes the machine\n"

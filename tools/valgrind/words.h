@@ -13,6 +13,7 @@ enum { SERVED_BY_L2, SERVED_BY_L3, SERVED_BY_MEMORY, PAGE_MISSED, BRANCH_ERRED, 
 
 typedef struct {
     Bool has_model;   /* caches, translation buffers and the predictor */
+    Bool has_profile; /* of functions and lines (profile.h) */
     Bool is_partial;  /* only some kinds count: no library can be served */
     Bool has_counts;  /* of all kinds, for requests */
     Bool has_further; /* kinds that only other tools count, and accesses as they see them */
