@@ -6,6 +6,7 @@ import re
 from collections import Counter
 from dataclasses import dataclass, field
 from pathlib import Path
+from typing import Iterator
 
 from here import CHECKS
 
@@ -15,14 +16,24 @@ FOLDER = CHECKS / "kernels.d"
 TURNS = 1000
 FLOATING = [f"{form} {width}" for width in (128, 256) for form in ("double", "single")]
 NAMES = {
-    "instruction": "instructions", "load": "loads", "store": "stores", "taken": "conditional_taken",
-    "not taken": "conditional_not_taken", "jump": "jumps", "call": "calls", "return": "returns",
-    "scalar double": "scalar_double", "scalar single": "scalar_single", "x87": "x87",
+    "instruction": "instructions",
+    "load": "loads",
+    "store": "stores",
+    "taken": "conditional_taken",
+    "not taken": "conditional_not_taken",
+    "jump": "jumps",
+    "call": "calls",
+    "return": "returns",
+    "scalar double": "scalar_double",
+    "scalar single": "scalar_single",
+    "x87": "x87",
     **{name: name.replace(" ", "_") for name in FLOATING},
 }
 MISSES = {
-    "load miss": "l1d_load_misses", "store miss": "l1d_store_misses",
-    "load page miss": "dtlb_load_misses", "store page miss": "dtlb_store_misses",
+    "load miss": "l1d_load_misses",
+    "store miss": "l1d_store_misses",
+    "load page miss": "dtlb_load_misses",
+    "store page miss": "dtlb_store_misses",
 }
 
 
@@ -39,11 +50,18 @@ class Kernel:
     last: list[str] = field(default_factory=list)
     after: list[str] = field(default_factory=list)
     whole: Counter[str] = field(default_factory=Counter)
-    by_lines: Counter[str] | None = None  # the accesses of each turn, if an instruction with rep accesses each line once
+    by_lines: Counter[
+        str
+    ] | None = None  # the accesses of each turn, if an instruction with rep accesses each line once
 
     def wanted(self, by_lines: bool = False) -> dict[str, int]:
-        """Of each kind that is known: the body's, those of the loop around it, and of what runs once. Without the return."""
-        each = {**self.each, "loads": 0, "stores": 0, **self.by_lines} if by_lines and self.by_lines is not None else self.each
+        """Of each kind that is known: the body's, those of the loop around it, and of what runs once.
+        Without the return."""
+        each = (
+            {**self.each, "loads": 0, "stores": 0, **self.by_lines}
+            if by_lines and self.by_lines is not None
+            else self.each
+        )
         total = Counter({kind: count * self.turns for kind, count in each.items()}) + self.whole
         total["instructions"] += 1 + len(self.first) + 2 * self.turns + len(self.last)
         total["conditional_taken"] += self.turns - 1
@@ -53,9 +71,20 @@ class Kernel:
 
     def text(self) -> str:
         """For GNU's assembler."""
-        lines = [f".p2align 6\n.globl kernel_{self.name}\n.type kernel_{self.name}, @function\nkernel_{self.name}:",
-                 f"mov ${self.turns},%r15d", *self.first, "9:", *self.body, "dec %r15d", "jnz 9b", *self.last, "ret", *self.after,
-                 f".size kernel_{self.name}, .-kernel_{self.name}"]
+        lines = [
+            f".p2align 6\n.globl kernel_{self.name}\n.type kernel_{self.name}, @function",
+            f"kernel_{self.name}:",
+            f"mov ${self.turns},%r15d",
+            *self.first,
+            "9:",
+            *self.body,
+            "dec %r15d",
+            "jnz 9b",
+            *self.last,
+            "ret",
+            *self.after,
+            f".size kernel_{self.name}, .-kernel_{self.name}",
+        ]
         return "\n".join(lines) + "\n"
 
 
@@ -71,33 +100,53 @@ def read_counts(text: str, place: str) -> Counter[str]:
     return counts
 
 
+def whole_lines(text: str) -> Iterator[tuple[int, str]]:
+    """The lines with their numbers. One that ends where a part of it may goes on in the next."""
+    begun = ""
+    for number, line in enumerate(text.splitlines(), 1):
+        begun = f"{begun} {line.strip()}" if begun else line.rstrip()
+        if begun.endswith((" ;", " =", ",")) and not begun.startswith("#"):
+            continue
+        yield number, begun
+        begun = ""
+
+
+def take_further(kernel: Kernel, word: str, rest: str, place: str) -> None:
+    """A line below a kernel's own."""
+    if word == "turns":
+        kernel.turns = int(rest)
+    elif word == "whole":
+        kernel.whole += read_counts(rest, place)
+    elif word == "by":
+        kernel.by_lines = read_counts(rest.removeprefix("lines "), place)
+    elif word in ("first", "last", "after"):
+        getattr(kernel, word).append(rest)
+    else:
+        raise Fault(f"{place}: {word}: no such word")
+
+
 def read_kernels(path: Path) -> list[Kernel]:
     """`NAME: LINE ; LINE = COUNTS` of one turn, and below it, indented, what else there is of it."""
     kernels: list[Kernel] = []
-    for number, line in enumerate(path.read_text(encoding="ascii").splitlines(), 1):
+    for number, line in whole_lines(path.read_text(encoding="ascii")):
         place = f"{path.name}:{number}"
         word, _, rest = line.strip().partition(" ")
         if not word or word == "#":
             continue
-        if not line.startswith(" "):
-            body, _, counts = rest.rpartition(" = ")
-            kernels.append(Kernel(word.removesuffix(":"), body.split(" ; "), read_counts(counts, place), path.stem == "lines"))
-        elif word == "turns":
-            kernels[-1].turns = int(rest)
-        elif word == "whole":
-            kernels[-1].whole += read_counts(rest, place)
-        elif word == "by":
-            kernels[-1].by_lines = read_counts(rest.removeprefix("lines "), place)
-        elif word in ("first", "last", "after"):
-            getattr(kernels[-1], word).append(rest)
-        else:
-            raise Fault(f"{place}: {word}: no such word")
+        if line.startswith(" "):
+            take_further(kernels[-1], word, rest, place)
+            continue
+        body, _, counts = rest.rpartition(" = ")
+        each, knows_misses = read_counts(counts, place), path.stem == "lines"
+        kernels.append(Kernel(word.removesuffix(":"), body.split(" ; "), each, knows_misses))
     return kernels
 
 
 def all_kernels() -> list[Kernel]:
     kernels = [kernel for path in sorted(FOLDER.glob("*.kernels")) for kernel in read_kernels(path)]
-    twice = [name for name, count in Counter(kernel.name for kernel in kernels).items() if count > 1]
+    twice = [
+        name for name, count in Counter(kernel.name for kernel in kernels).items() if count > 1
+    ]
     if twice:
         raise Fault(f"{FOLDER}: two kernels are named {twice[0]}")
     return kernels
@@ -105,6 +154,16 @@ def all_kernels() -> list[Kernel]:
 
 def assembly(kernels: list[Kernel]) -> str:
     """All kernels, an empty one, and the table that the harness has of them."""
-    table = "".join(f'.quad 7f, kernel_{kernel.name}\n.pushsection .rodata\n7: .asciz "{kernel.name}"\n.popsection\n' for kernel in kernels)
-    return (".text\n" + "".join(kernel.text() for kernel in kernels) + ".globl kernel_empty\nkernel_empty: ret\n"
-            + ".data\n.p2align 4\n.globl kernels\nkernels:\n" + table + ".quad 0, 0\n.section .note.GNU-stack,\"\",@progbits\n")
+    table = "".join(
+        f".quad 7f, kernel_{kernel.name}\n"
+        f'.pushsection .rodata\n7: .asciz "{kernel.name}"\n.popsection\n'
+        for kernel in kernels
+    )
+    return (
+        ".text\n"
+        + "".join(kernel.text() for kernel in kernels)
+        + ".globl kernel_empty\nkernel_empty: ret\n"
+        + ".data\n.p2align 4\n.globl kernels\nkernels:\n"
+        + table
+        + '.quad 0, 0\n.section .note.GNU-stack,"",@progbits\n'
+    )

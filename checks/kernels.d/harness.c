@@ -1,8 +1,9 @@
-/* Runs each kernel over blocks that no cache has, and prints the counts of all kinds: those of the kernel and what
- * stands around it, without those of an empty kernel.
+/* Runs each kernel over blocks that no cache has, and prints the counts of all kinds: those of the
+ * kernel and what stands around it, without those of an empty kernel.
  *
- * Words: KIND PERIOD KIND PERIOD TURN, each a number of twelve digits: thresholds of two kinds of `looked_at`, or none
- * if a period is 0; and the instructions of a turn. What the program does by itself is the same whatever they are. */
+ * Words: KIND PERIOD KIND PERIOD TURN, each a number of twelve digits: thresholds of two kinds of
+ * `looked_at`, or none if a period is 0; and the instructions of a turn. What the program does by
+ * itself is the same whatever they are. */
 #define _GNU_SOURCE
 #include "live.h"
 
@@ -17,7 +18,10 @@
 #define RESET 4096
 #define PAGE __attribute__((aligned(4096)))
 
-typedef struct { const char *name; void (*run)(void); } kernel;
+typedef struct {
+    const char *name;
+    void (*run)(void);
+} kernel;
 extern const kernel kernels[];
 extern void kernel_empty(void);
 
@@ -28,9 +32,11 @@ PAGE char place[4096];
 PAGE int ones[1024];
 PAGE int steps[8] = {0, 8, 16, 24, 32, 40, 48, 56};
 static uint64_t before[KL_KINDS], after[KL_KINDS], stops, turn;
-uintptr_t ask_before[6] = {KL_REQUEST + KL_COUNTS, (uintptr_t)before, KL_KINDS}, ask_after[6] = {KL_REQUEST + KL_COUNTS, (uintptr_t)after, KL_KINDS};
+uintptr_t ask_before[6] = {KL_REQUEST + KL_COUNTS, (uintptr_t)before, KL_KINDS},
+          ask_after[6] = {KL_REQUEST + KL_COUNTS, (uintptr_t)after, KL_KINDS};
 uintptr_t saved_stack;
-static const unsigned looked_at[] = {KL_INSTRUCTIONS, KL_CYCLES, KL_LOADS, KL_STORES, KL_L1D_LOAD_MISSES, KL_TAKEN};
+static const unsigned looked_at[] = {KL_INSTRUCTIONS, KL_CYCLES,          KL_LOADS,
+                                     KL_STORES,       KL_L1D_LOAD_MISSES, KL_TAKEN};
 
 void kl_live_stops(uint64_t pc) {
     (void)pc;
@@ -38,19 +44,24 @@ void kl_live_stops(uint64_t pc) {
     if (turn) kl_ask(KL_TURN, turn, 0, 0);
 }
 
-#define ASKS "rolq $3, %%rdi\n rolq $13, %%rdi\n rolq $61, %%rdi\n rolq $51, %%rdi\n xchgq %%rbx, %%rbx\n"
+#define ASKS                                                                                       \
+    "rolq $3, %%rdi\n rolq $13, %%rdi\n rolq $61, %%rdi\n rolq $51, %%rdi\n xchgq %%rbx, %%rbx\n"
 
-/* The stack's end is in the middle of a page, so that its line is in another set than the first lines of pages. */
+/* The stack's end is in the middle of a page, so that its line is in another set than the first
+ * lines of pages. */
 static __attribute__((noinline)) void measure(void (*run)(void)) {
-    __asm__ volatile("mov %%rsp, saved_stack(%%rip)\n lea kernel_stack + 61440 + 2048(%%rip), %%rsp\n mov %0, %%r12\n"
-                     "lea ask_before(%%rip), %%rax\n xor %%edx, %%edx\n" ASKS
-                     "lea block_a(%%rip), %%rsi\n lea block_b(%%rip), %%rdi\n mov %%rsi, %%r14\n mov %%rdi, %%r13\n"
-                     "call *%%r12\n"
-                     "lea ask_after(%%rip), %%rax\n xor %%edx, %%edx\n" ASKS
-                     "mov saved_stack(%%rip), %%rsp\n"
-                     :
-                     : "r"(run)
-                     : "rax", "rbx", "rcx", "rdx", "rsi", "rdi", "r8", "r9", "r10", "r11", "r12", "r13", "r14", "r15", "cc", "memory", "xmm0", "xmm1", "xmm2", "xmm3", "xmm4", "xmm5", "xmm6", "xmm7");
+    __asm__ volatile(
+        "mov %%rsp, saved_stack(%%rip)\n"
+        " lea kernel_stack + 61440 + 2048(%%rip), %%rsp\n mov %0, %%r12\n"
+        "lea ask_before(%%rip), %%rax\n xor %%edx, %%edx\n" ASKS
+        "lea block_a(%%rip), %%rsi\n"
+        " lea block_b(%%rip), %%rdi\n mov %%rsi, %%r14\n mov %%rdi, %%r13\n"
+        "call *%%r12\n"
+        "lea ask_after(%%rip), %%rax\n xor %%edx, %%edx\n" ASKS "mov saved_stack(%%rip), %%rsp\n"
+        :
+        : "r"(run)
+        : "rax", "rbx", "rcx", "rdx", "rsi", "rdi", "r8", "r9", "r10", "r11", "r12", "r13", "r14",
+          "r15", "cc", "memory", "xmm0", "xmm1", "xmm2", "xmm3", "xmm4", "xmm5", "xmm6", "xmm7");
 }
 
 /* Neither block is in the first two levels, nor in the translation buffer. */
@@ -66,7 +77,8 @@ static void run(const kernel *k, long counts[KL_KINDS]) {
         leave_caches();
         __asm__ volatile("fninit; vzeroupper");
         measure(both[i].run);
-        for (int kind = 0; kind < KL_KINDS; kind++) counts[kind] = (long)(after[kind] - before[kind]) - (i ? counts[kind] : 0);
+        for (int kind = 0; kind < KL_KINDS; kind++)
+            counts[kind] = (long)(after[kind] - before[kind]) - (i ? counts[kind] : 0);
     }
 }
 
@@ -88,7 +100,8 @@ int main(int count, char **words) {
     if (count != WORDS + 1) return 9;
     for (int i = 0; i < WORDS; i++) numbers[i] = number_of(words[i + 1]);
     memset(ones, 255, sizeof ones);
-    if (kl_ask(KL_HELLO, (uintptr_t)first, (uintptr_t)end, (uintptr_t)kl_live_stub) != KL_VERSION) return 8;
+    if (kl_ask(KL_HELLO, (uintptr_t)first, (uintptr_t)end, (uintptr_t)kl_live_stub) != KL_VERSION)
+        return 8;
     for (int i = 0; i < 4; i += 2)
         if (!kl_ask(KL_ARM, looked_at[numbers[i]], numbers[i + 1], 0)) return 7;
     kl_ask(KL_TURN, turn = numbers[4], 0, 0);

@@ -1,4 +1,5 @@
-"""Kernels in assembly whose counts are known by hand (checks/kernels --quick): two ways of looking, and as a recording."""
+"""Kernels in assembly whose counts are known by hand (checks/kernels --quick): two ways of looking,
+and as a recording."""
 
 from __future__ import annotations
 
@@ -14,10 +15,57 @@ from tests.support import ROOT, InFolder, needs_command
 
 # What the processor's manuals and compilers have: each word is in some kernel's text.
 CLASSES = (
-    "push", "pop", "leave", "cmov", "xchg", "lock", "cmpxchg16b", "bt", "set", "prefetcht0", "movss", "addpd", "dpps", "vaddps", "vfmadd", "vmaskmov", "vgather",
-    "fld", "fadd", "fxsave", "xsave", "rep movs", "rep stos", "repe cmps", "repne scas", "lods", "call *", "jmp *", "ret", "loop", "%fs:", "maskmovdqu",
+    "push",
+    "pop",
+    "leave",
+    "cmov",
+    "xchg",
+    "lock",
+    "cmpxchg16b",
+    "bt",
+    "set",
+    "prefetcht0",
+    "movss",
+    "addpd",
+    "dpps",
+    "vaddps",
+    "vfmadd",
+    "vmaskmov",
+    "vgather",
+    "fld",
+    "fadd",
+    "fxsave",
+    "xsave",
+    "rep movs",
+    "rep stos",
+    "repe cmps",
+    "repne scas",
+    "lods",
+    "call *",
+    "jmp *",
+    "ret",
+    "loop",
+    "%fs:",
+    "maskmovdqu",
 )
-CONDITIONS = ("o", "no", "b", "ae", "e", "ne", "be", "a", "s", "ns", "p", "np", "l", "ge", "le", "g")
+CONDITIONS = (
+    "o",
+    "no",
+    "b",
+    "ae",
+    "e",
+    "ne",
+    "be",
+    "a",
+    "s",
+    "ns",
+    "p",
+    "np",
+    "l",
+    "ge",
+    "le",
+    "g",
+)
 
 
 class Files(InFolder):
@@ -25,14 +73,33 @@ class Files(InFolder):
         return read_kernels(Path(self.write("lines.kernels", text)))
 
     def test_what_a_kernel_counts(self) -> None:
-        """Ten turns of a load and a store with the loop's two instructions, one before the loop, and that which sets its number of turns."""
-        (kernel,) = self.read("# a comment\nboth: mov (%rsi),%rax ; mov %rax,(%rdi) = 2 instructions, 1 load, 1 store\n  first nop\n  turns 10\n  whole 3 load misses\n  by lines 1 load\n")
+        """Ten turns of a load and a store with the loop's two instructions, one before the loop, and
+        that which sets its number of turns."""
+        (kernel,) = self.read(
+            "# a comment\nboth: mov (%rsi),%rax ;\n  mov %rax,(%rdi) = 2 instructions,\n"
+            "  1 load, 1 store\n  first nop\n  turns 10\n  whole 3 load misses\n  by lines 1 load\n"
+        )
         wanted = {kind: count for kind, count in kernel.wanted().items() if count}
-        self.assertEqual(wanted, {"instructions": 42, "loads": 10, "stores": 10, "conditional_taken": 9, "conditional_not_taken": 1, "l1d_load_misses": 3})
-        self.assertEqual((kernel.wanted(by_lines=True)["loads"], kernel.wanted(by_lines=True)["stores"]), (10, 0))
+        self.assertEqual(
+            wanted,
+            {
+                "instructions": 42,
+                "loads": 10,
+                "stores": 10,
+                "conditional_taken": 9,
+                "conditional_not_taken": 1,
+                "l1d_load_misses": 3,
+            },
+        )
+        self.assertEqual(
+            (kernel.wanted(by_lines=True)["loads"], kernel.wanted(by_lines=True)["stores"]), (10, 0)
+        )
 
     def test_lines_that_are_none(self) -> None:
-        for text, cause in (("a: nop = 1 instruktion\n", "lines.kernels:1: no count: 1 instruktion"), ("a: nop = 1 instruction\n  often 3\n", "lines.kernels:2: often: no such word")):
+        for text, cause in (
+            ("a: nop = 1 instruktion\n", "lines.kernels:1: no count: 1 instruktion"),
+            ("a: nop = 1 instruction\n  often 3\n", "lines.kernels:2: often: no such word"),
+        ):
             with self.assertRaisesRegex(Fault, cause):
                 self.read(text)
 
@@ -51,6 +118,10 @@ class Files(InFolder):
 @needs_command("objcopy", "binutils")
 class Kernels(unittest.TestCase):
     def test_kernels(self) -> None:
-        done = subprocess.run([sys.executable, str(ROOT / "checks/kernels"), "--quick"], capture_output=True, text=True)
+        done = subprocess.run(
+            [sys.executable, str(ROOT / "checks/kernels"), "--quick"],
+            capture_output=True,
+            text=True,
+        )
         self.assertEqual((done.returncode, done.stderr), (0, ""), done.stdout[-3000:])
         self.assertRegex(done.stdout, r"\A\d{4} passed, 0 failed\n\Z")

@@ -1,8 +1,8 @@
-"""Our tool of Valgrind at its edges: streams that fail, faults, time that passes, instructions that Valgrind does not have, and what adds up."""
+"""Our tool of Valgrind at its edges: streams that fail, faults, time that passes, instructions that
+Valgrind does not have, and what adds up."""
 
 from __future__ import annotations
 
-import shutil
 import subprocess
 import unittest
 from pathlib import Path
@@ -15,51 +15,20 @@ from tests.counted import Counted
 from tests.support import ROOT, TOOLS, InFolder, needs_command, needs_library
 from tests.test_tool import Recording, needs_tool
 
-HEADERS = next((folder for folder in ("/usr/include/valgrind", "/usr/local/include/valgrind") if Path(folder, "pub_tool_basics.h").is_file()), None)
+LONGEST = 100  # seconds: a write that fails must not be tried again and again
+HEADERS = next(
+    (
+        folder
+        for folder in ("/usr/include/valgrind", "/usr/local/include/valgrind")
+        if Path(folder, "pub_tool_basics.h").is_file()
+    ),
+    None,
+)
 
-# What output.c takes of Valgrind, over the C library. The last write is seen by how many bytes there were.
-STUBS = """
-#include "output.h"
-#include "words.h"
-#include <stdarg.h>
-#include <stdio.h>
-#include <stdlib.h>
-#include <string.h>
-#include <unistd.h>
-all_words words = {.stream = 1, .report = 2};
-Int vgPlain_safe_fd(Int file) { return file; }
-void *vgPlain_calloc(const HChar *why, SizeT count, SizeT size) { return calloc(count, size); }
-void *vgPlain_malloc(const HChar *why, SizeT size) { return malloc(size); }
-void *vgPlain_realloc(const HChar *why, void *at, SizeT size) { return realloc(at, size); }
-void vgPlain_free(void *at) { free(at); }
-void *vgPlain_memcpy(void *to, const void *from, SizeT size) { return memcpy(to, from, size); }
-SizeT vgPlain_strlen(const HChar *text) { return strlen(text); }
-HChar *vgPlain_strcpy(HChar *to, const HChar *from) { return strcpy(to, from); }
-HChar *vgPlain_strstr(const HChar *text, const HChar *part) { return strstr(text, part); }
-Int vgPlain_write(Int file, const void *from, Int size) { return (Int)write(file, from, (size_t)size); }
-void vgPlain_close(Int file) { close(file); }
-Int vgPlain_fd_open(const HChar *name, Int flags, Int mode) { return -1; }
-UInt vgPlain_vsnprintf(HChar *to, Int size, const HChar *form, va_list all) { return (UInt)vsnprintf(to, (size_t)size, form, all); }
-UInt vgPlain_snprintf(HChar *to, Int size, const HChar *form, ...) { va_list all; va_start(all, form); return (UInt)vsnprintf(to, (size_t)size, form, all); }
-UInt vgPlain_sprintf(HChar *to, const HChar *form, ...) { va_list all; va_start(all, form); return (UInt)vsprintf(to, form, all); }
-UInt vgPlain_umsg(const HChar *form, ...) { return 0; }
-void vgPlain_exit(Int status) { exit(status); }
-int main(int count, char **bytes) {
-    outputs_begin();
-    stream *s = stream_of(0);
-    for (int i = 1; i < count; i++) {
-        size_t left = strtoul(bytes[i], NULL, 10);
-        while (left) {
-            static char line[4096];
-            UInt part = left < sizeof line ? (UInt)left : sizeof line;
-            stream_puts(s, line, part, 0x1234);
-            left -= part;
-        }
-    }
-    stream_ends(s);
-    return 0;
-}
-"""
+
+def source(name: str) -> str:
+    """The text of a program in the folder of tests."""
+    return (TOOLS / "tests" / name).read_text(encoding="ascii")
 
 
 @needs_command("cc", "a C compiler")
@@ -70,24 +39,59 @@ class Streams(InFolder):
     def setUp(self) -> None:
         super().setUp()
         self.program = str(self.folder / "streams")
-        macros = ["-DVGA_amd64=1", "-DVGO_linux=1", "-DVGP_amd64_linux=1", "-DVGPV_amd64_linux_vanilla=1"]
-        subprocess.run(["cc", "-O1", "-std=gnu11", "-w", "-fno-builtin", *macros, "-isystem", HEADERS or "", f"-I{valgrind.SOURCES}", "-o", self.program,
-                        self.write("streams.c", STUBS), str(valgrind.SOURCES / "output.c")], check=True)
+        macros = [
+            "-DVGA_amd64=1",
+            "-DVGO_linux=1",
+            "-DVGP_amd64_linux=1",
+            "-DVGPV_amd64_linux_vanilla=1",
+        ]
+        subprocess.run(
+            [
+                "cc",
+                "-O1",
+                "-std=gnu11",
+                "-w",
+                "-fno-builtin",
+                *macros,
+                "-isystem",
+                HEADERS or "",
+                f"-I{valgrind.SOURCES}",
+                "-o",
+                self.program,
+                str(TOOLS / "tests/output_stubs.c"),
+                str(valgrind.SOURCES / "output.c"),
+            ],
+            check=True,
+        )
 
     def put(self, output: str, *sizes: int) -> tuple[int, str]:
         with open(output, "wb") as file:
-            done = subprocess.run([self.program, *map(str, sizes)], stdout=file, stderr=subprocess.PIPE, text=True)
+            done = subprocess.run(
+                [self.program, *map(str, sizes)],
+                stdout=file,
+                stderr=subprocess.PIPE,
+                text=True,
+                timeout=LONGEST,
+            )
         return done.returncode, done.stderr
 
     def test_a_stream_takes_its_limit_to_the_last_byte(self) -> None:
         place = self.folder / "stream"
-        for sizes, told, size in (((self.MOST,), (0, ""), self.MOST), ((self.MOST - 1, 1), (0, ""), self.MOST), ((self.MOST, 1), (1, "full 1234\n"), self.MOST),
-                                  ((self.MOST - 9, 10), (1, "full 1234\n"), self.MOST - 9)):
-            self.assertEqual((self.put(str(place), *sizes), place.stat().st_size), (told, size), sizes)
+        for sizes, told, size in (
+            ((self.MOST,), (0, ""), self.MOST),
+            ((self.MOST - 1, 1), (0, ""), self.MOST),
+            ((self.MOST, 1), (1, "full 1234\n"), self.MOST),
+            ((self.MOST - 9, 10), (1, "full 1234\n"), self.MOST - 9),
+        ):
+            self.assertEqual(
+                (self.put(str(place), *sizes), place.stat().st_size), (told, size), sizes
+            )
 
     def test_a_write_that_fails_ends_the_run(self) -> None:
         self.assertEqual(self.put("/dev/full", 10), (1, "failed the stream can't be written\n"))
-        self.assertEqual(self.put("/dev/full", 1_000_000), (1, "failed the stream can't be written\n"))
+        self.assertEqual(
+            self.put("/dev/full", 1_000_000), (1, "failed the stream can't be written\n")
+        )
 
 
 @needs_tool
@@ -95,43 +99,46 @@ class Ends(Recording):
     def test_an_output_that_takes_nothing(self) -> None:
         for words in (["-o", "/dev/full"], []):
             with open("/dev/full", "wb") as full:
-                done = subprocess.run([str(TOOLS / "record"), *words, self.compile("sample")], stdout=full, stderr=subprocess.PIPE, text=True)
-            self.assertEqual((done.returncode, done.stderr), (1, "record: the stream can't be written\n"), words)
-
-    FAULTS = """
-        #define _GNU_SOURCE
-        #include <setjmp.h>
-        #include <signal.h>
-        #include <stdlib.h>
-        #include <sys/mman.h>
-        #include <unistd.h>
-        __asm__(".globl fault; .type fault, @function; fault: .rept 10; nop; .endr; movl $1,(%rdi); xor %eax,%eax; xor %edx,%edx; nop; divl (%rsi); ret; .size fault, .-fault");
-        extern void fault(int *place, const int *by);
-        static sigjmp_buf back;
-        static void on(int n) { (void)n; siglongjmp(back, 1); }
-        int main(int count, char **words) {
-            const int number = atoi(words[count - 1]), by = 0;
-            static int place;
-            int *beyond = mmap(NULL, 8192, PROT_READ | PROT_WRITE, MAP_SHARED, memfd_create("empty", 0), 0);
-            signal(number, on);
-            if (!sigsetjmp(back, 1)) fault(number == SIGSEGV ? (int *)8 : number == SIGBUS ? beyond : &place, &by);
-            return 0;
-        }
-    """
+                done = subprocess.run(
+                    [str(TOOLS / "record"), *words, self.compile("sample")],
+                    stdout=full,
+                    stderr=subprocess.PIPE,
+                    text=True,
+                )
+            self.assertEqual(
+                (done.returncode, done.stderr), (1, "record: the stream can't be written\n"), words
+            )
 
     def test_faults_in_the_middle_of_a_block(self) -> None:
-        """Ten instructions are run before the store that faults, and fourteen before the division. The one that faults has its line."""
-        program = self.compile("faults", self.FAULTS, "-static", "-fno-pie", "-no-pie", "-fcf-protection=none")
-        nm = subprocess.run(["nm", "-S", program], capture_output=True, text=True, check=True).stdout
-        first, size = next((int(words[0], 16), int(words[1], 16)) for words in map(str.split, nm.splitlines()) if words[-1] == "fault")
+        """Ten instructions are run before the store that faults, and fourteen before the division.
+        The one that faults has its line."""
+        program = self.compile(
+            "faults", source("faults.c"), "-static", "-fno-pie", "-no-pie", "-fcf-protection=none"
+        )
+        nm = subprocess.run(
+            ["nm", "-S", program], capture_output=True, text=True, check=True
+        ).stdout
+        first, size = next(
+            (int(words[0], 16), int(words[1], 16))
+            for words in map(str.split, nm.splitlines())
+            if words[-1] == "fault"
+        )
         for signal_number, wanted in ((11, 11), (7, 11), (8, 15)):
-            lines = [line.split() for line in self.record("--from", "fault", program, str(signal_number))]
-            found = [int(line[4]) for line in lines if line[1] == "c0" and first <= int(line[5], 16) < first + size]
+            lines = [
+                line.split() for line in self.record("--from", "fault", program, str(signal_number))
+            ]
+            found = [
+                int(line[4])
+                for line in lines
+                if line[1] == "c0" and first <= int(line[5], 16) < first + size
+            ]
             self.assertEqual(sum(found), wanted, signal_number)
 
     def test_a_program_that_is_not_there_by_a_bad_pointer(self) -> None:
         """EFAULT, and the recording goes on."""
-        program = self.compile("pointers", """
+        program = self.compile(
+            "pointers",
+            """
             #define _GNU_SOURCE
             #include <errno.h>
             #include <unistd.h>
@@ -139,13 +146,20 @@ class Ends(Recording):
             int main(int count, char **words) {
                 const char *paths[] = {(char *)8, NULL, (char *)-1};
                 for (int i = 0; i < 3; i++) {
-                    if (syscall(SYS_execve, paths[i], words, NULL) != -1 || errno != EFAULT) return 10 + i;
-                    if (syscall(SYS_execveat, -100, paths[i], words, NULL, 0) != -1 || errno != EFAULT) return 20 + i;
+                    if (syscall(SYS_execve, paths[i], words, 0) != -1 || errno != EFAULT) return 1;
+                    errno = 0;
+                    if (syscall(SYS_execveat, -100, paths[i], words, 0, 0) != -1 || errno != EFAULT)
+                        return 2;
                 }
                 return 0;
             }
-        """)
-        done = subprocess.run([str(TOOLS / "record"), "-o", str(self.folder / "stream"), program], capture_output=True, text=True)
+        """,
+        )
+        done = subprocess.run(
+            [str(TOOLS / "record"), "-o", str(self.folder / "stream"), program],
+            capture_output=True,
+            text=True,
+        )
         self.assertEqual((done.returncode, done.stderr.count("\n")), (0, 1), done.stderr)
 
 
@@ -169,20 +183,36 @@ class Refused(Counted):
             return puts("back") < 0;
         }
     """
-    LINE = r"the instruction at 0x[0-9a-f]+ is one of AVX-512, which Valgrind does not have: compile with -mno-avx512f\n"
+    LINE = (
+        r"the instruction at 0x[0-9a-f]+ is one of AVX-512, which Valgrind does not have: "
+        r"compile with -mno-avx512f\n"
+    )
     OTHER = r"Valgrind does not have the instruction at 0x[0-9a-f]+\n"
 
     def test_what_valgrind_does_not_have_is_said_once(self) -> None:
-        """vpxord and kmovw; xlat; and ud2, which is there to fault. The program goes on as it would."""
+        """vpxord and kmovw; xlat; and ud2, which is there to fault. The program goes on as it
+        would."""
         program = self.compile(self.AVX512)
-        for words, line in (((), self.LINE), (("k",), self.LINE), (("x",), self.OTHER), (("u",), "")):
+        for words, line in (
+            ((), self.LINE),
+            (("k",), self.LINE),
+            (("x",), self.OTHER),
+            (("u",), ""),
+        ):
             done = self.count(program, *words)
             self.assertEqual((done.stdout, done.returncode), ("back\n", 0))
             said = "".join(f"{told}\n" for told in done.stderr.splitlines() if "Valgrind" in told)
             self.assertRegex(said, rf"\Apapi: {line}\Z" if line else r"\A\Z")
-            recorded = subprocess.run([str(TOOLS / "record"), "-o", str(self.folder / "stream"), program, *words], capture_output=True, text=True)
+            recorded = subprocess.run(
+                [str(TOOLS / "record"), "-o", str(self.folder / "stream"), program, *words],
+                capture_output=True,
+                text=True,
+            )
             self.assertEqual((recorded.returncode, recorded.stdout), (0, "back\n"))
-            self.assertRegex(recorded.stderr, rf"\A{f'record: {line}' if line else ''}record: [\d,]+ instructions, .*\n\Z")
+            self.assertRegex(
+                recorded.stderr,
+                rf"\A{f'record: {line}' if line else ''}record: [\d,]+ instructions, .*\n\Z",
+            )
 
 
 WALKS = """
@@ -206,18 +236,28 @@ SIDES = ("load", "store", "fetch")
 
 @needs_tool
 class Sums(Recording):
-    def recorded(self, program: str, machine: Machine, stream: str = "stream", **words: bool) -> Recorded:
+    def recorded(
+        self, program: str, machine: Machine, stream: str = "stream", **words: bool
+    ) -> Recorded:
         found = record(Wanted(program, [], machine, **words), str(self.folder / stream), "test")
         self.assertEqual((found.status, found.failure), (0, None))
         return found
 
     def test_what_misses_cost(self) -> None:
-        """Each cycle beside that of an instruction is of something that happened, by costs that differ."""
+        """Each cycle beside that of an instruction is of something that happened, by costs that
+        differ."""
         machine = Machine(MACHINES["skl"].shapes, costs=(3, 7, 11, 13, 17))
         found = self.recorded(self.compile("walks", WALKS), machine)
-        parts = {3: [f"l2_{side}_hits" for side in SIDES], 7: [f"l3_{side}_hits" for side in SIDES], 11: [f"l3_{side}_misses" for side in SIDES],
-                 13: ["dtlb_load_misses", "dtlb_store_misses", "itlb_misses"], 17: ["mispredicted_taken", "mispredicted_not_taken"]}
-        self.assertEqual(found.sum("stalls"), sum(cost * found.sum(*names) for cost, names in parts.items()))
+        parts = {
+            3: [f"l2_{side}_hits" for side in SIDES],
+            7: [f"l3_{side}_hits" for side in SIDES],
+            11: [f"l3_{side}_misses" for side in SIDES],
+            13: ["dtlb_load_misses", "dtlb_store_misses", "itlb_misses"],
+            17: ["mispredicted_taken", "mispredicted_not_taken"],
+        }
+        self.assertEqual(
+            found.sum("stalls"), sum(cost * found.sum(*names) for cost, names in parts.items())
+        )
         self.assertEqual(found.sum("cycles"), found.sum("instructions", "stalls"))
         self.assertGreater(min(found.sum(*names) for names in parts.values()), 10, found.totals)
 
@@ -234,9 +274,25 @@ class Sums(Recording):
         return codes
 
     WANTED: Mapping[str, tuple[str, ...]] = {
-        "MEMORY:LOADS": ("loads",), "MEMORY:STORES": ("stores",), "L1D_MISS:LOADS": ("l1d_load_misses",), "L1D_MISS:STORES": ("l1d_store_misses",), "L1I_MISS:ALL": ("l1i_misses",),
-        **{f"{level}:{side.upper()}{'ES' if side == 'fetch' else 'S'}": tuple(f"{level.lower()}_{side}_{what}" for what in ("hits", "misses")) for level in ("L2", "L3") for side in SIDES},
-        **{f"{level}_MISS:{side.upper()}{'ES' if side == 'fetch' else 'S'}": (f"{level.lower()}_{side}_misses",) for level in ("L2", "L3") for side in SIDES},
+        "MEMORY:LOADS": ("loads",),
+        "MEMORY:STORES": ("stores",),
+        "L1D_MISS:LOADS": ("l1d_load_misses",),
+        "L1D_MISS:STORES": ("l1d_store_misses",),
+        "L1I_MISS:ALL": ("l1i_misses",),
+        **{
+            f"{level}:{side.upper()}{'ES' if side == 'fetch' else 'S'}": tuple(
+                f"{level.lower()}_{side}_{what}" for what in ("hits", "misses")
+            )
+            for level in ("L2", "L3")
+            for side in SIDES
+        },
+        **{
+            f"{level}_MISS:{side.upper()}{'ES' if side == 'fetch' else 'S'}": (
+                f"{level.lower()}_{side}_misses",
+            )
+            for level in ("L2", "L3")
+            for side in SIDES
+        },
     }
 
     def test_what_the_unit_counts_is_what_happened(self) -> None:
@@ -246,19 +302,40 @@ class Sums(Recording):
         codes = self.of_unit()
         for name, kinds in self.WANTED.items():
             select, bits = codes[name]
-            counted = sum(count for code, count in sums.items() if code.split()[0] == select and int(code.split()[1], 16) & bits)
+            counted = sum(
+                count
+                for code, count in sums.items()
+                if code.split()[0] == select and int(code.split()[1], 16) & bits
+            )
             self.assertEqual(counted, found.sum(*kinds), name)
         self.assertGreater(min(found.sum(f"l2_{side}_hits") for side in SIDES), 500, found.totals)
 
     def test_threads_that_have_ended_are_in_the_sum(self) -> None:
-        """A thread changes memory in one piece a thousand times, and is over before the program is."""
-        program = self.compile("locks", """
+        """A thread changes memory in one piece a thousand times, and is over before the program
+        is."""
+        program = self.compile(
+            "locks",
+            """
             #include <pthread.h>
             static long place;
-            static void *work(void *n) { for (int i = 0; i < 1000; i++) __asm__ volatile("lock incq %0" : "+m"(place)); return n; }
-            int main(void) { pthread_t t; pthread_create(&t, 0, work, 0); pthread_join(t, 0); return 0; }
-        """, "-pthread")
-        found = self.recorded(program, MACHINES["skl"].with_shapes({"l2": read_cache("262144,4,64")}), "run.%t", has_further=True)
+            static void *work(void *n) {
+                for (int i = 0; i < 1000; i++) __asm__ volatile("lock incq %0" : "+m"(place));
+                return n;
+            }
+            int main(void) {
+                pthread_t t;
+                pthread_create(&t, 0, work, 0);
+                return pthread_join(t, 0);
+            }
+        """,
+            "-pthread",
+        )
+        found = self.recorded(
+            program,
+            MACHINES["skl"].with_shapes({"l2": read_cache("262144,4,64")}),
+            "run.%t",
+            has_further=True,
+        )
         self.assertIn(found.sum("locked"), range(1000, 1500))
 
 
@@ -266,57 +343,39 @@ class Sums(Recording):
 class Time(Recording):
     """Cycles of the model at 1,000 MHz: a millisecond has a million."""
 
-    SLEEPS = """
-        #define _GNU_SOURCE
-        #include "live.h"
-        #include <errno.h>
-        #include <poll.h>
-        #include <signal.h>
-        #include <stdio.h>
-        #include <string.h>
-        #include <sys/epoll.h>
-        #include <sys/select.h>
-        #include <sys/syscall.h>
-        #include <sys/time.h>
-        #include <time.h>
-        #include <unistd.h>
-        static uint64_t now(void) { uint64_t times[2]; kl_ask(KL_TIME, (uintptr_t)times, 0, 0); return times[0]; }
-        static void on(int n) { (void)n; }
-        static void interrupt(void) { const struct itimerval soon = {{0, 0}, {0, 200000}}; setitimer(ITIMER_REAL, &soon, NULL); }
-        int main(int count, char **words) {
-            const struct timespec little = {0, 30000000}, long_time = {20, 0};
-            struct timespec rest;
-            struct timeval short_time = {0, 30000};
-            struct epoll_event event;
-            int queue = epoll_create1(0);
-            const char *name = words[count - 1];
-            signal(SIGALRM, on);
-            uint64_t before = now();
-            long answer = 0;
-            if (!strcmp(name, "nanosleep")) answer = syscall(SYS_nanosleep, &little, NULL);
-            if (!strcmp(name, "clock_nanosleep")) answer = syscall(SYS_clock_nanosleep, CLOCK_MONOTONIC, 0, &little, NULL);
-            if (!strcmp(name, "select")) answer = syscall(SYS_select, 0, NULL, NULL, NULL, &short_time);
-            if (!strcmp(name, "pselect")) answer = syscall(SYS_pselect6, 0, NULL, NULL, NULL, &little, NULL);
-            if (!strcmp(name, "poll")) answer = syscall(SYS_poll, NULL, 0, 30);
-            if (!strcmp(name, "ppoll")) answer = syscall(SYS_ppoll, NULL, 0, &little, NULL, 8);
-            if (!strcmp(name, "epoll_wait")) answer = syscall(SYS_epoll_wait, queue, &event, 1, 30);
-            if (!strcmp(name, "epoll_pwait")) answer = syscall(SYS_epoll_pwait, queue, &event, 1, 30, NULL, 8);
-            if (!strcmp(name, "nothing")) answer = syscall(SYS_poll, NULL, 0, 0);
-            if (!strcmp(name, "interrupted")) { interrupt(); answer = syscall(SYS_nanosleep, &long_time, &rest); }
-            if (!strcmp(name, "interrupted_clock")) { interrupt(); answer = syscall(SYS_clock_nanosleep, CLOCK_MONOTONIC, 0, &long_time, &rest); }
-            printf("%ld %lu\\n", answer, now() - before);
-            return 0;
-        }
-    """
 
-    def test_time_of_what_waits(self) -> None:
-        """Thirty milliseconds; and of twenty seconds those up to a signal, which comes within the first ten."""
-        program = self.compile("sleeps", self.SLEEPS, f"-I{ROOT / 'include'}", f"-I{ROOT / 'c'}", "-w")
-        calls = {name: (0, 30.0, 31.0) for name in ("nanosleep", "clock_nanosleep", "select", "pselect", "poll", "ppoll", "epoll_wait", "epoll_pwait")}
-        calls |= {"nothing": (0, 0.0, 1.0), "interrupted": (-1, 100.0, 10_000.0), "interrupted_clock": (-1, 100.0, 10_000.0)}
-        for name, (answer, least, most) in calls.items():
-            command = valgrind.command(["--model=yes", "--mhz=1000"], program, [name])
-            done = subprocess.run(command, env=valgrind.environment([program, name], {}), capture_output=True, text=True)
-            answered, cycles = map(int, done.stdout.split())
-            self.assertEqual(answered, answer, name)
-            self.assertTrue(least <= cycles / 1_000_000 <= most, (name, cycles))
+def test_time_of_what_waits(self) -> None:
+    """Thirty milliseconds; and of twenty seconds those up to a signal, which comes within the
+    first ten."""
+    program = self.compile(
+        "sleeps", source("sleeps.c"), f"-I{ROOT / 'include'}", f"-I{ROOT / 'c'}", "-w"
+    )
+    calls = {
+        name: (0, 30.0, 31.0)
+        for name in (
+            "nanosleep",
+            "clock_nanosleep",
+            "select",
+            "pselect",
+            "poll",
+            "ppoll",
+            "epoll_wait",
+            "epoll_pwait",
+        )
+    }
+    calls |= {
+        "nothing": (0, 0.0, 1.0),
+        "interrupted": (-1, 100.0, 10_000.0),
+        "interrupted_clock": (-1, 100.0, 10_000.0),
+    }
+    for name, (answer, least, most) in calls.items():
+        command = valgrind.command(["--model=yes", "--mhz=1000"], program, [name])
+        done = subprocess.run(
+            command,
+            env=valgrind.environment([program, name], {}),
+            capture_output=True,
+            text=True,
+        )
+        answered, cycles = map(int, done.stdout.split())
+        self.assertEqual(answered, answer, name)
+        self.assertTrue(least <= cycles / 1_000_000 <= most, (name, cycles))

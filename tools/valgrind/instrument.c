@@ -9,7 +9,7 @@
 #include "decode.h"
 #include "events.h"
 #include "frames.h"
-#include "operands.h"
+#include "marks.h"
 #include "profile.h"
 #include "slots.h"
 #include "thresholds.h"

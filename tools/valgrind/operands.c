@@ -1,8 +1,9 @@
-/* Valgrind's code for an instruction is not what the instruction does to memory: it takes some operands in parts, reads again what a locked instruction changes, goes over memory for
- * some that have no operand there, and has no prefetching. And once it is optimised, loads are gone whose value nobody uses. So each block is looked at before that. Where an operand
- * is, a mark is put: a store at an address that no program has. It is no more there when the block runs, since the code that counts takes its place. */
-#include "operands.h"
-
+/* Valgrind's code for an instruction is not what the instruction does to memory: it takes some
+ * operands in parts, reads again what a locked instruction changes, goes over memory for some that
+ * have no operand there, and has no prefetching. And once it is optimised, loads are gone whose
+ * value nobody uses. So each block is looked at before that. Where an operand is, a mark is put: a
+ * store at an address that no program has. It is no more there when the block runs, since the code
+ * that counts takes its place. */
 #include "libvex.h"
 #include "pub_tool_guest.h"
 #include "pub_tool_libcassert.h"
@@ -10,10 +11,9 @@
 #include "pub_tool_mallocfree.h"
 
 #include "decode.h"
+#include "marks.h"
 #include "words.h"
 
-#define FIRST_MARK 0x4B4C000000000000UL /* no address, since its upper bits are not all one bit */
-#define MASK_MARK 0x100000000UL         /* beside the number of an access: its mask */
 #define BYTES_OF_512 512
 #define MOST_PARTS 128 /* of an instruction: xsave has 36 */
 
@@ -44,52 +44,11 @@ typedef struct {
     UInt parts_count, operands_count;
 } looking;
 
-/* The accesses that the marks of the last block stand for. */
-typedef struct { UInt size, width; Bool loads, stores; } marked;
-static marked *marks;
-static UInt marks_count, marks_room;
-static IRExpr *last_mask;
-
-/* -- marks -- */
-
-static IRExpr *mark_address(ULong number) { return IRExpr_Const(IRConst_U64(FIRST_MARK + number)); }
-
-static void put_mark(IRSB *out, const operand *o, IRExpr *address) {
-    if (marks_count == marks_room) marks = VG_(realloc)("marks", marks, (marks_room = 2 * marks_room + 64) * sizeof *marks);
-    IRExpr *guard = o->of.guard;
-    if (o->mask) addStmtToIRSB(out, IRStmt_Store(Iend_LE, mark_address(MASK_MARK + marks_count), o->mask));
-    if (guard) addStmtToIRSB(out, IRStmt_StoreG(Iend_LE, mark_address(marks_count), address, guard));
-    else addStmtToIRSB(out, IRStmt_Store(Iend_LE, mark_address(marks_count), address));
-    marks[marks_count++] = (marked){o->of.size, o->mask ? o->of.size / o->count : 0, o->of.loads, o->of.stores};
-}
-
-static Bool is_mark(const IRExpr *address, ULong *number) {
-    if (address->tag != Iex_Const || address->Iex.Const.con->tag != Ico_U64) return False;
-    *number = address->Iex.Const.con->Ico.U64 - FIRST_MARK;
-    return (*number & ~MASK_MARK) < marks_count;
-}
-
-Bool marks_access(const IRStmt *s, access *a) {
-    ULong number;
-    Bool is_guarded = s->tag == Ist_StoreG;
-    if (!is_guarded && s->tag != Ist_Store) return False;
-    if (!is_mark(is_guarded ? s->Ist.StoreG.details->addr : s->Ist.Store.addr, &number)) return False;
-    *a = (access){0};
-    if (number & MASK_MARK) {
-        last_mask = s->Ist.Store.data;
-        return True;
-    }
-    const marked *m = marks + number;
-    *a = (access){.size = m->size, .loads = m->loads, .stores = m->stores, .width = m->width};
-    a->address = is_guarded ? s->Ist.StoreG.details->data : s->Ist.Store.data;
-    a->guard = is_guarded ? s->Ist.StoreG.details->guard : NULL;
-    a->mask = m->width ? last_mask : NULL;
-    return True;
-}
-
 /* -- parts -- */
 
-static UInt size_of(const IRSB *sb, const IRExpr *e) { return (UInt)sizeofIRType(typeOfIRExpr(sb->tyenv, e)); }
+static UInt size_of(const IRSB *sb, const IRExpr *e) {
+    return (UInt)sizeofIRType(typeOfIRExpr(sb->tyenv, e));
+}
 
 static UInt size_of_guarded(IRLoadGOp op) {
     IRType result, loaded;
@@ -99,8 +58,13 @@ static UInt size_of_guarded(IRLoadGOp op) {
 
 static part part_of_helper(const IRDirty *d) {
     Bool is_always = d->guard->tag == Iex_Const && d->guard->Iex.Const.con->Ico.U1;
-    Bool loads = d->mFx == Ifx_Read || d->mFx == Ifx_Modify, stores = d->mFx == Ifx_Write || d->mFx == Ifx_Modify;
-    return (part){.address = d->mAddr, .guard = is_always ? NULL : d->guard, .size = (UInt)d->mSize, .loads = loads, .stores = stores};
+    Bool loads = d->mFx == Ifx_Read || d->mFx == Ifx_Modify,
+         stores = d->mFx == Ifx_Write || d->mFx == Ifx_Modify;
+    return (part){.address = d->mAddr,
+                  .guard = is_always ? NULL : d->guard,
+                  .size = (UInt)d->mSize,
+                  .loads = loads,
+                  .stores = stores};
 }
 
 /* What a statement does to memory. */
@@ -109,49 +73,68 @@ static part part_of(const IRSB *sb, const IRStmt *s) {
     switch (s->tag) {
     case Ist_WrTmp: {
         const IRExpr *e = s->Ist.WrTmp.data;
-        return e->tag == Iex_Load ? (part){.address = e->Iex.Load.addr, .size = (UInt)sizeofIRType(e->Iex.Load.ty), .loads = True} : none;
+        return e->tag == Iex_Load ? (part){.address = e->Iex.Load.addr,
+                                           .size = (UInt)sizeofIRType(e->Iex.Load.ty),
+                                           .loads = True}
+                                  : none;
     }
-    case Ist_Store: return (part){.address = s->Ist.Store.addr, .size = size_of(sb, s->Ist.Store.data), .stores = True};
+    case Ist_Store:
+        return (part){
+            .address = s->Ist.Store.addr, .size = size_of(sb, s->Ist.Store.data), .stores = True};
     case Ist_LoadG: {
         const IRLoadG *l = s->Ist.LoadG.details;
-        return (part){.address = l->addr, .guard = l->guard, .size = size_of_guarded(l->cvt), .loads = True};
+        return (part){
+            .address = l->addr, .guard = l->guard, .size = size_of_guarded(l->cvt), .loads = True};
     }
     case Ist_StoreG: {
         const IRStoreG *g = s->Ist.StoreG.details;
-        return (part){.address = g->addr, .guard = g->guard, .size = size_of(sb, g->data), .stores = True};
+        return (part){
+            .address = g->addr, .guard = g->guard, .size = size_of(sb, g->data), .stores = True};
     }
     case Ist_Dirty: return part_of_helper(s->Ist.Dirty.details);
     case Ist_CAS: {
         const IRCAS *c = s->Ist.CAS.details;
-        return (part){.address = c->addr, .size = size_of(sb, c->dataLo) * (c->dataHi ? 2 : 1), .loads = True, .stores = True};
+        return (part){.address = c->addr,
+                      .size = size_of(sb, c->dataLo) * (c->dataHi ? 2 : 1),
+                      .loads = True,
+                      .stores = True};
     }
     default: return none;
     }
 }
 
-static Bool is_number(const IRExpr *e) { return e->tag == Iex_Const && e->Iex.Const.con->tag == Ico_U64; }
+static Bool is_number(const IRExpr *e) {
+    return e->tag == Iex_Const && e->Iex.Const.con->tag == Ico_U64;
+}
 
-static const IRExpr *meaning_of(const looking *l, const IRExpr *e) { return e->tag == Iex_RdTmp ? l->meanings[e->Iex.RdTmp.tmp] : NULL; }
+static const IRExpr *meaning_of(const looking *l, const IRExpr *e) {
+    return e->tag == Iex_RdTmp ? l->meanings[e->Iex.RdTmp.tmp] : NULL;
+}
 
 /* What an address is above: it is followed through additions of numbers. */
 static void find_root(const looking *l, part *p) {
     const IRExpr *e = p->address, *meaning;
-    for (; (meaning = meaning_of(l, e)); ) {
+    for (; (meaning = meaning_of(l, e));) {
         if (meaning->tag == Iex_RdTmp || is_number(meaning)) {
             e = meaning;
             continue;
         }
-        Bool adds = meaning->tag == Iex_Binop && meaning->Iex.Binop.op == Iop_Add64, takes = meaning->tag == Iex_Binop && meaning->Iex.Binop.op == Iop_Sub64;
+        Bool adds = meaning->tag == Iex_Binop && meaning->Iex.Binop.op == Iop_Add64,
+             takes = meaning->tag == Iex_Binop && meaning->Iex.Binop.op == Iop_Sub64;
         if ((!adds && !takes) || !is_number(meaning->Iex.Binop.arg2)) break;
         Long number = (Long)meaning->Iex.Binop.arg2->Iex.Const.con->Ico.U64;
         p->offset += adds ? number : -number;
         e = meaning->Iex.Binop.arg1;
     }
-    if (is_number(e)) p->offset += (Long)e->Iex.Const.con->Ico.U64;
-    else p->root = e;
+    if (is_number(e))
+        p->offset += (Long)e->Iex.Const.con->Ico.U64;
+    else
+        p->root = e;
 }
 
-static Bool has_root(const part *p, const part *q) { return p->root && q->root ? eqIRAtom(p->root, q->root) : p->root == q->root; }
+static Bool has_root(const part *p, const part *q) {
+    return p->root && q->root ? eqIRAtom(p->root, q->root) : p->root == q->root;
+}
 
 /* What the statements of an instruction do to memory. */
 static void find_parts(looking *l, Int from, Int to) {
@@ -176,7 +159,8 @@ static operand *new_operand(looking *l, const part *p) {
 }
 
 static void widen(operand *o, const part *p) {
-    Long first = p->offset < o->first ? p->offset : o->first, end = o->first + (Long)o->of.size, end_of_part = p->offset + (Long)p->size;
+    Long first = p->offset < o->first ? p->offset : o->first, end = o->first + (Long)o->of.size,
+         end_of_part = p->offset + (Long)p->size;
     o->of.size = (UInt)((end_of_part > end ? end_of_part : end) - first);
     o->first = first;
     o->of.guard = o->of.guard && p->guard && eqIRAtom(o->of.guard, p->guard) ? o->of.guard : NULL;
@@ -194,7 +178,10 @@ static void gather_side(looking *l, part p) {
     new_operand(l, &p);
 }
 
-static Bool has_place(const operand *o, const operand *p) { return has_root(&o->of, &p->of) && o->first == p->first && o->of.size == p->of.size && !o->of.guard && !p->of.guard; }
+static Bool has_place(const operand *o, const operand *p) {
+    return has_root(&o->of, &p->of) && o->first == p->first && o->of.size == p->of.size &&
+           !o->of.guard && !p->of.guard;
+}
 
 /* What is loaded and stored at one place is one access. */
 static void join_sides(looking *l) {
@@ -253,12 +240,15 @@ static void choose_element(const looking *l, operand *o) {
     if (meaning && meaning->tag == Iex_ITE) o->of.guard = meaning->Iex.ITE.cond;
 }
 
-/* As Valgrind's other tools have it: each statement is an access, and a store behind a load at the same place is a part of it. */
+/* As Valgrind's other tools have it: each statement is an access, and a store behind a load at the
+ * same place is a part of it. */
 static void take_each(looking *l) {
     for (UInt i = 0; i < l->parts_count; i++) {
         operand *o = new_operand(l, &l->parts[i]);
         const part *p = &l->parts[i], *next = p + 1;
-        if (i + 1 == l->parts_count || !p->loads || p->stores || p->guard || next->loads || next->guard || next->size != p->size || !eqIRAtom(next->address, p->address)) continue;
+        if (i + 1 == l->parts_count || !p->loads || p->stores || p->guard || next->loads ||
+            next->guard || next->size != p->size || !eqIRAtom(next->address, p->address))
+            continue;
         o->of.stores = True;
         i++;
     }
@@ -271,13 +261,15 @@ static void take_each(looking *l) {
 /* By their numbers in an instruction. */
 static const UShort registers[16] = {
     PLACE(RAX), PLACE(RCX), PLACE(RDX), PLACE(RBX), PLACE(RSP), PLACE(RBP), PLACE(RSI), PLACE(RDI),
-    PLACE(R8), PLACE(R9), PLACE(R10), PLACE(R11), PLACE(R12), PLACE(R13), PLACE(R14), PLACE(R15)};
+    PLACE(R8),  PLACE(R9),  PLACE(R10), PLACE(R11), PLACE(R12), PLACE(R13), PLACE(R14), PLACE(R15)};
 
 static IRExpr *register_of(IRSB *out, Int place) {
     return made(out, Ity_I64, IRExpr_Get(place, Ity_I64));
 }
 
-static IRExpr *sum_of(IRSB *out, IRExpr *a, IRExpr *b) { return made(out, Ity_I64, IRExpr_Binop(Iop_Add64, a, b)); }
+static IRExpr *sum_of(IRSB *out, IRExpr *a, IRExpr *b) {
+    return made(out, Ity_I64, IRExpr_Binop(Iop_Add64, a, b));
+}
 
 static IRExpr *address_of(IRSB *out, Addr pc, UInt size) {
     operand_address a = address_of_bytes((const UChar *)pc, size);
@@ -298,8 +290,8 @@ static IRExpr *address_of(IRSB *out, Addr pc, UInt size) {
 
 /* A load of one byte. */
 static void mark_prefetch(looking *l, Addr pc, UInt size) {
-    const operand o = {.of = {.size = 1, .loads = True}, .count = 1};
-    put_mark(l->out, &o, address_of(l->out, pc, size));
+    const access a = {.address = address_of(l->out, pc, size), .size = 1, .loads = True};
+    put_mark(l->out, &a);
 }
 
 /* -- the block -- */
@@ -317,21 +309,34 @@ static void find_operands(looking *l, operands kind) {
     }
 }
 
-/* Marks the operands that stand at a statement: a masked one behind its last guard, others where their first part is. */
+static void put_operand(looking *l, const operand *o) {
+    Long lower = o->first - o->of.offset;
+    access a = {.address = o->of.address, .guard = o->of.guard, .size = o->of.size};
+    if (lower) a.address = sum_of(l->out, a.address, IRExpr_Const(IRConst_U64((ULong)lower)));
+    a.loads = o->of.loads;
+    a.stores = o->of.stores;
+    a.mask = o->mask;
+    a.width = o->of.size / o->count;
+    put_mark(l->out, &a);
+}
+
+/* Marks the operands that stand at a statement: a masked one where its last part is, whose guard is
+ * known there, others where their first part is. */
 static void put_marks(looking *l, Int at, operands kind) {
     for (UInt i = 0; i < l->operands_count; i++) {
         operand *o = &l->operands[i];
-        Bool is_masked = kind == OPERANDS_MASKED && o->of.at != at && l->parts_count && l->parts[l->parts_count - 1].at == at;
-        if (kind == OPERANDS_MASKED ? !is_masked : o->of.at != at) continue;
+        Bool is_masked = kind == OPERANDS_MASKED;
+        if (at != (is_masked ? l->parts[l->parts_count - 1].at : o->of.at)) continue;
         if (is_masked) make_mask(l, o);
-        Long lower = o->first - o->of.offset;
-        put_mark(l->out, o, lower ? sum_of(l->out, o->of.address, IRExpr_Const(IRConst_U64((ULong)lower))) : o->of.address);
+        put_operand(l, o);
     }
 }
 
 static void mark_instruction(looking *l, Int from, Int to, Bool is_by_instruction) {
     const IRStmt *begin = l->in->stmts[from];
-    operands kind = is_by_instruction ? operands_of_bytes((const UChar *)begin->Ist.IMark.addr, begin->Ist.IMark.len) : OPERANDS_EACH;
+    operands kind = is_by_instruction ? operands_of_bytes((const UChar *)begin->Ist.IMark.addr,
+                                                          begin->Ist.IMark.len)
+                                      : OPERANDS_EACH;
     find_parts(l, from, to);
     find_operands(l, kind);
     addStmtToIRSB(l->out, l->in->stmts[from]);
@@ -347,10 +352,12 @@ static const IRExpr **meanings_of(const IRSB *in) {
     static const IRExpr **meanings;
     static Int room;
     Int count = in->tyenv->types_used;
-    if (count > room) meanings = VG_(realloc)("meanings", meanings, (SizeT)(room = 2 * count) * sizeof *meanings);
+    if (count > room)
+        meanings = VG_(realloc)("meanings", meanings, (SizeT)(room = 2 * count) * sizeof *meanings);
     VG_(memset)(meanings, 0, (SizeT)count * sizeof *meanings);
     for (Int i = 0; i < in->stmts_used; i++)
-        if (in->stmts[i]->tag == Ist_WrTmp) meanings[in->stmts[i]->Ist.WrTmp.tmp] = in->stmts[i]->Ist.WrTmp.data;
+        if (in->stmts[i]->tag == Ist_WrTmp)
+            meanings[in->stmts[i]->Ist.WrTmp.tmp] = in->stmts[i]->Ist.WrTmp.data;
     return meanings;
 }
 
@@ -359,9 +366,10 @@ static IRSB *mark_accesses(const IRSB *in, Bool is_by_instruction) {
     l.in = in;
     l.out = deepCopyIRSBExceptStmts(in);
     l.meanings = meanings_of(in);
-    marks_count = 0;
+    marks_begin();
     Int from = 0;
-    while (from < in->stmts_used && in->stmts[from]->tag != Ist_IMark) addStmtToIRSB(l.out, in->stmts[from++]);
+    while (from < in->stmts_used && in->stmts[from]->tag != Ist_IMark)
+        addStmtToIRSB(l.out, in->stmts[from++]);
     while (from < in->stmts_used) {
         Int to = from + 1;
         while (to < in->stmts_used && in->stmts[to]->tag != Ist_IMark) to++;
@@ -377,7 +385,11 @@ typedef Bool precise(Int, Int, VexRegisterUpdates);
 extern IRSB *__real_do_iropt_BB(IRSB *, special *, precise *, VexRegisterUpdates, Addr, VexArch);
 extern IRSB *__wrap_do_iropt_BB(IRSB *, special *, precise *, VexRegisterUpdates, Addr, VexArch);
 
-IRSB *__wrap_do_iropt_BB(IRSB *in, special *specialise, precise *is_precise, VexRegisterUpdates updates, Addr first, VexArch arch) {
-    if (words.has_further) return mark_accesses(__real_do_iropt_BB(in, specialise, is_precise, updates, first, arch), False);
-    return __real_do_iropt_BB(mark_accesses(in, True), specialise, is_precise, updates, first, arch);
+IRSB *__wrap_do_iropt_BB(IRSB *in, special *specialise, precise *is_precise,
+                         VexRegisterUpdates updates, Addr first, VexArch arch) {
+    if (words.has_further)
+        return mark_accesses(__real_do_iropt_BB(in, specialise, is_precise, updates, first, arch),
+                             False);
+    return __real_do_iropt_BB(mark_accesses(in, True), specialise, is_precise, updates, first,
+                              arch);
 }
