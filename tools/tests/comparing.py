@@ -37,7 +37,7 @@ def counts(**total: int) -> dict[str, Any]:
             {
                 "number": 1,
                 "parent": 0,
-                "program": "/b/sort",
+                "program": "./sort",
                 "total": total,
                 "threads": [{"number": 1, "counts": total}],
             }

@@ -193,6 +193,12 @@ class Functions(Comparing):
             },
         )
 
+    def test_those_that_differ_most_come_first(self) -> None:
+        base = self.profile(*(function(name, 100, 100) for name in "abcd"))
+        new = self.profile(function("a", 103, 1), function("b", 50, 1), function("d", 110, 1))
+        done = self.compare(base, new, "--by", "function")
+        self.assertEqual([line[0] for line in done.stdout.splitlines()[1:5]], ["c", "b", "d", "a"])
+
     def test_the_same_functions_are_left_out_with_what_they_call_too(self) -> None:
         base = self.profile(function("main", 1, 3), function("f", 2, 2))
         done = self.compare(base, base, "--by", "inclusive")

@@ -80,7 +80,7 @@ def _may_differ(place: Place) -> dict[str, str]:
 
 def _functions(place: Place, kind: str, events: tuple[str, ...]) -> Rows:
     """The counts by function. Clones, which have one name in one object and file, are added."""
-    programs = {process.at("program").text() for process in place.at("processes").each()}
+    programs = {_base(process.at("program")) for process in place.at("processes").each()}
     rows: dict[str, Counts] = defaultdict(lambda: dict.fromkeys(events, 0))
     for each in place.at("functions").each():
         name, before = _function_name(each, programs), _counts(each.at(kind), events)
@@ -90,13 +90,15 @@ def _functions(place: Place, kind: str, events: tuple[str, ...]) -> Rows:
     return dict(rows)
 
 
+def _base(place: Place) -> str:
+    """The name of a file without its folders, which move from build to build."""
+    return posixpath.basename(place.text())
+
+
 def _function_name(place: Place, programs: set[str]) -> str:
-    """The name, with the source file, and the object if it is not the program. Folders and lines
-    are left out, since they move from build to build."""
-    source, library = place.at("file").text_or_none(), place.at("object").text()
-    where = [
-        posixpath.basename(path)
-        for path in (source, library if library not in programs else None)
-        if path
-    ]
-    return f"{place.at('name').text()} ({', '.join(where)})" if where else place.at("name").text()
+    """The name, with the source file if that is known, and the object if it is not the program.
+    Lines are left out, since they move with each change."""
+    name, library = place.at("name").text(), _base(place.at("object"))
+    where = [_base(place.at("file"))] if place.at("file").value is not None else []
+    where += [library] if library not in programs else []
+    return f"{name} ({', '.join(where)})" if where else name

@@ -55,7 +55,8 @@ def _cells(row: Row) -> list[str]:
 
 
 def _shown(comparison: Comparison) -> tuple[list[tuple[str, list[Row]]], int]:
-    """The rows by name, without functions the same on both sides, and how many these are."""
+    """The rows by name. Functions are in the order of how much they differ in the first event, and
+    those the same on both sides are left out. And how many these are."""
     groups = [(name, list(rows)) for name, rows in groupby(comparison.rows, lambda row: row.name)]
     if comparison.level not in ("function", "inclusive"):
         return groups, 0
@@ -64,6 +65,7 @@ def _shown(comparison: Comparison) -> tuple[list[tuple[str, list[Row]]], int]:
         for name, rows in groups
         if any(row.difference or row.base is None or row.new is None for row in rows)
     ]
+    shown.sort(key=lambda group: -abs(group[1][0].difference))
     return shown, len(groups) - len(shown)
 
 
