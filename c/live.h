@@ -13,7 +13,7 @@ typedef struct { uint64_t of[LINE_KINDS]; } kl_amounts;
 
 /* What a thread has of it. */
 typedef struct live_thread {
-    line_codes codes;     /* of the lines, by the unit */
+    const kind_lines *codes; /* of the lines, by the unit */
     kl_amounts seen;      /* the thread's counts up to which all has happened, but for what is left */
     kl_amounts left;      /* of kinds that are wanted */
     uint64_t wanted;      /* the kinds that a running set counts */
@@ -30,11 +30,9 @@ typedef struct live_thread {
 /* live_lines.c: of these kinds as many occurrences happen, at this address, and are taken off one piece after the other: a handler may jump out. Of several kinds they
  * come in turn. PAPI_ENOINIT if a handler ended the library: the thread's state may be gone then. */
 int kl_happen(thread_state *t, kl_amounts *amounts, uint64_t kinds, uint64_t address);
-/* The codes that a unit's events have: Skylake's own, if its first component is the core of one. */
-line_codes kl_codes_of(kistalub *library);
-/* The lines of one kind without their amounts and addresses. */
-const kind_lines *kl_line_heads(line_codes of, int kind);
-uint32_t kl_head_count(line_codes of, int kind);
+/* The codes that a unit's events have: those that tools/count tells, if it tells them of the unit's first component. Without its word they are those of
+ * examples/recorded.unit. If its word is of another component nothing has a code. */
+const kind_lines *kl_codes_of(kistalub *library);
 
 /* live_kinds.c: the kinds that an event counts, by its code in the thread's library. */
 uint64_t kl_kinds_of(thread_state *t, uint32_t code);

@@ -27,7 +27,7 @@ static int64_t added(kistalub *h, uint32_t set, uint32_t lines, int64_t *before)
 }
 
 /* An event that counts edges adds 1 at the first of the lines of a kind, and so may one with a least amount. What happens between two occurrences matters to it. */
-static uint64_t counted_by(kistalub *h, line_codes codes, const char *name) {
+static uint64_t counted_by(kistalub *h, const kind_lines *codes, const char *name) {
     uint32_t set = 0;
     uint64_t kinds = 0;
     int64_t before = 0;
@@ -35,34 +35,44 @@ static uint64_t counted_by(kistalub *h, line_codes codes, const char *name) {
         kistalub_add_named(h, set, (const unsigned char *)name, strlen(name)) != PAPI_OK || kistalub_start(h, set) != PAPI_OK)
         return KL_ALL_KINDS;
     for (int kind = 0; kind < LINE_KINDS; kind++) {
-        int64_t more = added(h, set, LINES_OF_HEAD * kl_head_count(codes, kind), &before);
+        int64_t more = added(h, set, LINES_OF_HEAD * codes[kind].count, &before);
         if (more == 1) return KL_ALL_KINDS;
         if (more) kinds |= KL_BIT(kind);
     }
     return kinds;
 }
 
+/* Three lines of each head, of each kind in turn. PAPI_ENOMEM: no lines. */
+static int put_heads(const kind_lines *codes, text *lines) {
+    size_t heads = 0;
+    for (int kind = 0; kind < LINE_KINDS; kind++) heads += codes[kind].count;
+    char *to = malloc(heads * LINES_OF_HEAD * LINE_ROOM + 1); /* not on the stack: a thread may have a small one */
+    *lines = (text){ (unsigned char *)to, 0 };
+    if (!to) return PAPI_ENOMEM;
+    for (int kind = 0; kind < LINE_KINDS; kind++)
+        for (unsigned i = 0; i < codes[kind].count; i++) {
+            const char *head = codes[kind].of[i];
+            lines->length += (size_t)snprintf(to + lines->length, LINES_OF_HEAD * LINE_ROOM, "%s 1 0\n%s 255 0\n%s 255 0\n", head, head, head);
+        }
+    return PAPI_OK;
+}
+
 /* All kinds, if the core can't be asked. */
-static uint64_t ask_core(line_codes codes, const char *name) {
-    char stream[LINES_OF_HEAD * MOST_HEADS * LINE_KINDS * LINE_ROOM];
-    text lines = { (unsigned char *)stream, 0 };
+static uint64_t ask_core(const kind_lines *codes, const char *name) {
+    text lines;
     kistalub probe = KISTALUB_SHUT;
     kl_files *files = kl_hold_files();
     uint64_t kinds = KL_ALL_KINDS;
     if (!files) return kinds;
-    for (int kind = 0; kind < LINE_KINDS; kind++)
-        for (uint32_t i = 0; i < kl_head_count(codes, kind); i++) {
-            const char *head = (*kl_line_heads(codes, kind))[i];
-            lines.length += (size_t)snprintf(stream + lines.length, sizeof stream - lines.length, "%s 1 0\n%s 255 0\n%s 255 0\n", head, head, head);
-        }
-    if (kl_open_over(&probe, files, 0, &lines) == PAPI_OK) kinds = counted_by(&probe, codes, name);
+    if (put_heads(codes, &lines) == PAPI_OK && kl_open_over(&probe, files, 0, &lines) == PAPI_OK) kinds = counted_by(&probe, codes, name);
     kistalub_close(&probe);
+    free(lines.bytes);
     kl_release_files(files);
     return kinds;
 }
 
 /* What counts nothing is told when it is asked for first. */
-static uint64_t kinds_of_native(line_codes codes, const char *name) {
+static uint64_t kinds_of_native(const kind_lines *codes, const char *name) {
     uint64_t kinds;
     pthread_mutex_lock(&kl_kinds_lock);
     for (const known *k = first; k; k = k->next)

@@ -1,6 +1,7 @@
 /* Occurrences of a program that runs, as lines of its thread's stream (docs/FORMATS.md): an amount of up to 255 in each. */
 /* The tool has the lines up to their amounts; a program that the library is linked into may have its names. */
-#define kind_heads kl_kind_heads
+#define recorded_codes kl_recorded_codes
+#define read_codes kl_read_codes
 #define kind_names kl_kind_names
 #include "live.h"
 
@@ -15,27 +16,32 @@
 #define LONGEST_LINES (MOST_HEADS * LONGEST_LINE)
 #define PMU_ROOM 80
 
-line_codes kl_codes_of(kistalub *library) {
-    static const char *const skylakes[] = { "skl", "skx", "clx" };
-    char pmu[PMU_ROOM];
-    uint64_t length = 0;
-    if (kistalub_component(library, 0, KISTALUB_COMPONENT_PMU, 0, (unsigned char *)pmu, sizeof pmu - 1, &length) != PAPI_OK) return RECORDED_CODES;
-    pmu[length] = 0;
-    for (size_t i = 0; i < sizeof skylakes / sizeof *skylakes; i++)
-        if (!strcasecmp(pmu, skylakes[i])) return SKYLAKE_CODES;
-    return RECORDED_CODES;
+/* KISTALUB_CODES: the pmu of a component, a space, and its codes as the tool reads them, or nothing for those of examples/recorded.unit. They are read once. */
+static const kind_lines *codes_told(const char *text) {
+    static pthread_mutex_t lock = PTHREAD_MUTEX_INITIALIZER;
+    static line_codes told;
+    static int is_read, is_right;
+    pthread_mutex_lock(&lock);
+    if (!is_read) is_right = read_codes(text, told);
+    is_read = 1;
+    pthread_mutex_unlock(&lock);
+    return is_right ? told : NULL;
 }
 
-const kind_lines *kl_line_heads(line_codes of, int kind) { return &kind_heads[of][kind]; }
-
-uint32_t kl_head_count(line_codes of, int kind) {
-    uint32_t count = 0;
-    while (count < MOST_HEADS && kind_heads[of][kind][count]) count++;
-    return count;
+const kind_lines *kl_codes_of(kistalub *library) {
+    static const line_codes none;
+    const char *text = kl_variable("KISTALUB_CODES"), *codes = text ? strchr(text, ' ') : NULL;
+    char pmu[PMU_ROOM];
+    uint64_t length = 0;
+    if (!codes) return recorded_codes;
+    int code = kistalub_component(library, 0, KISTALUB_COMPONENT_PMU, 0, (unsigned char *)pmu, sizeof pmu - 1, &length);
+    if (code != PAPI_OK || length != (uint64_t)(codes - text) || strncasecmp(pmu, text, length)) return none;
+    const kind_lines *told = codes[1] ? codes_told(codes + 1) : recorded_codes;
+    return told ? told : none;
 }
 
 /* One kind that has occurrences left: the lines of each, how many times they are written, and once with the largest amount. */
-typedef struct { int kind; const kind_lines *heads; uint32_t count; uint64_t times, credit; size_t length; char full[LONGEST_LINES]; } turn;
+typedef struct { int kind; const kind_lines *heads; uint64_t times, credit; size_t length; char full[LONGEST_LINES]; } turn;
 
 static size_t put_digits(char *to, uint64_t number, unsigned base) {
     char digits[20];
@@ -59,20 +65,18 @@ static size_t put_line(char *to, const char *head, uint64_t amount, uint64_t add
 
 static size_t put_lines(char *to, const turn *one, uint64_t amount, uint64_t address) {
     size_t length = 0;
-    for (uint32_t i = 0; i < one->count; i++) length += put_line(to + length, (*one->heads)[i], amount, address);
+    for (unsigned i = 0; i < one->heads->count; i++) length += put_line(to + length, one->heads->of[i], amount, address);
     return length;
 }
 
-static int take_turns(line_codes of, const kl_amounts *amounts, uint64_t kinds, uint64_t address, turn *turns, uint64_t *most) {
+static int take_turns(const kind_lines *codes, const kl_amounts *amounts, uint64_t kinds, uint64_t address, turn *turns, uint64_t *most) {
     int count = 0;
     for (uint64_t left = kinds; left; left &= left - 1) {
         int kind = __builtin_ctzll(left);
-        uint32_t heads = kl_head_count(of, kind);
-        if (!amounts->of[kind] || !heads) continue;
+        if (!amounts->of[kind] || !codes[kind].count) continue;
         turn *one = &turns[count++];
         one->kind = kind;
-        one->heads = kl_line_heads(of, kind);
-        one->count = heads;
+        one->heads = &codes[kind];
         one->times = (amounts->of[kind] + MOST_AMOUNT - 1) / MOST_AMOUNT;
         one->credit = 0;
         if (one->times > 1) one->length = put_lines(one->full, one, MOST_AMOUNT, address);
@@ -90,7 +94,7 @@ static void put_turn(live_thread *live, piece *p, const turn *one, uint64_t left
         memcpy(to, one->full, one->length);
         p->used += one->length;
     } else p->used += put_lines(to, one, amount, address);
-    p->lines += one->count;
+    p->lines += one->heads->count;
     p->taken.of[one->kind] += amount;
 }
 

@@ -1,5 +1,5 @@
-"""Native events that count 0, since no line of the streams counts for them (docs/FORMATS.md, What the calls do), and those of Skylake that count something else in a
-recording (docs/RECORDING.md, Codes)."""
+"""Native events that count 0, since no line of the streams counts for them (docs/FORMATS.md, What the calls do), and those of real processors that count something else in
+a recording (docs/RECORDING.md, Codes)."""
 
 from __future__ import annotations
 
@@ -20,12 +20,11 @@ SILENT = "counts 0: no line of the streams has its code"
 RUN_TOOLS = ("papi_run", "papi_profil", "papi_regions")
 REFUSED = re.compile(r"([0-9]+) [0-9]+ [a-z]+ PAPI_E.*")
 ON = re.compile("|1|y|t", re.IGNORECASE)
-# The processors whose own codes tools/record writes, if it is told so by --unit, and how its streams begin (docs/RECORDING.md, Codes).
-SKYLAKES = ("skl", "skx", "clx")
+# The processors of make_unit, and how the streams of tools/record begin (docs/RECORDING.md, Codes).
+PROCESSOR = re.compile(r"(nhm|wsm|snb|ivb|hsw|bdw|skl|skx|clx|icl|icx|spr|amd64)(_\w+)?", re.IGNORECASE)
+COUNTED = "# counted: "  # a line of a unit that has the codes of recordings
 RECORDING = b"# loaded at "
-# Umasks of its select codes that share a bit with occurrences of another meaning.
-OTHERWISE = {0x24: (0xC1, 0xC2, 0xC4, 0xD8, 0xE1, 0xE2, 0xE7, 0xF8, 0xFF), 0xD0: (0x11, 0x12, 0x21, 0x41, 0x42)}
-RECORDER = "tools/record --unit UNIT writes the codes of UNIT's own events, as far as docs/RECORDING.md lists them"
+RECORDER = "tools/record --unit UNIT writes lines for the events of UNIT, if tools/make_unit PMU --counted made it"
 
 
 @dataclass(frozen=True)
@@ -48,12 +47,11 @@ class Native:
         parts = [f"{self.select:02x}"] + [f"a bit of {self.mask:02x}"] * bool(self.mask) + [f"mode {self.modes}"] * (len(self.modes) == 1)
         return " with ".join((parts[0], " in ".join(parts[1:]))) if len(parts) > 1 else parts[0]
 
-    def is_of_skylake(self) -> bool:
-        return self.name.partition("::")[0].lower() in SKYLAKES
+    def pmu(self) -> str:
+        return self.name.partition("::")[0]
 
-    def counts_otherwise(self) -> bool:
-        """Whether lines count for it in a recording that are not of its meaning. All that share a bit with it do, and a line has the amount of many occurrences."""
-        return self.is_of_skylake() and (self.mask in OTHERWISE.get(self.select, ()) or self.amount > 0)
+    def is_of_processor(self) -> bool:
+        return PROCESSOR.fullmatch(self.pmu()) is not None
 
 
 def silent_hints(tool: str, read: Words, lines: Sequence[str]) -> list[str]:
@@ -66,7 +64,8 @@ def silent_hints(tool: str, read: Words, lines: Sequence[str]) -> list[str]:
         presets = read_presets(read.options["-P"], read.options["-C"]) if "-P" in read.options else None
         natives = list(_natives(unit, presets, _names(tool, read, lines)))
         silent = [native for native in natives if not _is_met(native, streams)]
-        return _told(silent, streams) + _told_otherwise([native for native in natives if native not in silent and native.counts_otherwise()], streams)
+        others = [native for native in natives if native not in silent and native.is_of_processor()]
+        return _told(silent, streams) + _told_otherwise(others, streams, _is_counted(read.options["-U"]))
     except (Unread, OSError, KeyError, IndexError, ValueError):
         return []
 
@@ -74,12 +73,21 @@ def silent_hints(tool: str, read: Words, lines: Sequence[str]) -> list[str]:
 def _told(silent: Sequence[Native], streams: Sequence[str]) -> list[str]:
     told = [f"{native.name} {SILENT}, {native.code()}" for native in silent[:MOST_TOLD]]
     more = [f"and {len(silent) - MOST_TOLD} more native events count 0"] if len(silent) > MOST_TOLD else []
-    return told + more + [RECORDER] * (any(native.is_of_skylake() for native in silent) and _are_of_others(streams))
+    return told + more + [RECORDER] * (any(native.is_of_processor() for native in silent) and _are_of_others(streams))
 
 
-def _told_otherwise(natives: Sequence[Native], streams: Sequence[str]) -> list[str]:
-    recorded = bool(natives) and any(_is_recording(stream) for stream in streams)
-    return [f"{native.name} counts something else in a recording than its name says: docs/RECORDING.md lists what, under Codes" for native in natives[:MOST_TOLD] if recorded]
+def _told_otherwise(natives: Sequence[Native], streams: Sequence[str], is_counted: bool) -> list[str]:
+    """Over a recording: all whose codes are the processor's own, and those with a least amount, since a line has the amount of many occurrences."""
+    if not natives or not any(_is_recording(stream) for stream in streams):
+        return []
+    if not is_counted:
+        pmu = natives[0].pmu()
+        return [f"{native.name} has a code of the processor itself, and a recording has others: tools/make_unit {pmu} --counted makes the unit for it" for native in natives[:MOST_TOLD]]
+    return [f"{native.name} counts lines of a recording, and not what its name says: docs/RECORDING.md has more under Codes" for native in natives[:MOST_TOLD] if native.amount > 0]
+
+
+def _is_counted(unit: str) -> bool:
+    return any(line.startswith(COUNTED) for line in read_lines(unit))
 
 
 def _are_of_others(streams: Sequence[str]) -> bool:

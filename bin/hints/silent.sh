@@ -137,6 +137,7 @@ function read_presets(  line, f, count, at, kind, in_group, ends) {
 function read_unit(  line, f, component, pmu, count, at, here, has_here) {
     component = -1
     while ((getline line < ENVIRON["KL_UNIT"]) > 0) {
+        if (line ~ /^# counted: /) is_counted = 1
         if (line ~ /^[ \t]*EVENT[ \t]*,/) {
             read_row(line, f)
             f[2] = toupper(trim(f[2]))
@@ -146,7 +147,7 @@ function read_unit(  line, f, component, pmu, count, at, here, has_here) {
                 if ((here[at] in found) || (pmu_of[here[at]] != "" && pmu_of[here[at]] != pmu)) { here[at] = ""; continue }
                 put(found, here[at])
                 has_here = 1
-                select_of[here[at]] = pmu ~ /^(SKL|SKX|CLX)$/ ? tolower(trim(f[3])) : ""
+                is_processors[here[at]] = pmu ~ /^(NHM|WSM|SNB|IVB|HSW|BDW|SKL|SKX|CLX|ICL|ICX|SPR|AMD64)(_[A-Z0-9_]+)?$/
                 amounts[here[at]] = attributes[here[at]] ~ /:C=/
                 heads[here[at]] = component "." digit(int(number_of(trim(f[3])) / 16)) digit(number_of(trim(f[3])) % 16)
                 masks[here[at]] = defaults[here[at]] = chosen[here[at]] = 0
@@ -169,13 +170,8 @@ function read_unit(  line, f, component, pmu, count, at, here, has_here) {
         }
     }
 }
-# What may count something else in a recording of Skylake: some umasks of two select codes, and least amounts.
-function is_other(text,  mask) {
-    mask = chosen[text] ? masks[text] : defaults[text]
-    if (select_of[text] == "24" && mask != 33 && mask != 34 && mask != 36 && mask != 39 && mask != 63 && mask != 56 && mask != 228) return 1
-    if (select_of[text] == "d0" && mask < 128) return 1
-    return select_of[text] != "" && amounts[text]
-}
+# What may count something else in a recording: events with the codes of a real processor, and least amounts.
+function is_other(text) { return is_processors[text] && (!is_counted || amounts[text]) }
 function mode_of(text,  user, kernel) {
     user = attributes[text] ~ /:U(=[1YT])?:/; kernel = attributes[text] ~ /:K(=[1YT])?:/
     return user == kernel ? "." : user ? "u" : "k"

@@ -27,6 +27,7 @@ BUILD = FOLDER / "c/build"
 OWN_FUNCTION = b"kistalub_go"  # PAPI's library has none of this name
 PAPI = "libpapi.so"
 MOST_MHZ = 1_000_000
+CODES = "KISTALUB_CODES"  # of the lines of the unit's events, for the library
 NO_STREAM = ("KISTALUB_STREAM", "KISTALUB_STEP")
 
 
@@ -118,7 +119,7 @@ def _words(
         words += [
             "--tape=yes",
             "--stopped=yes",
-            f"--codes={codes_of(environment['KISTALUB_UNIT'])}",
+            *codes_of(environment["KISTALUB_UNIT"]).tool_words(),
             f"--window={counting.window}",
         ]
     return words
@@ -178,6 +179,7 @@ def _changes(counting: Counting) -> dict[str, str]:
         "KISTALUB_CACHES": counting.machine.caches(),
         "LD_BIND_NOW": "1",
     }
+    changes[CODES] = codes_of(changes["KISTALUB_UNIT"]).variable()
     if counting.library:
         paths = [valgrind.of_one_length(str(Path(counting.library).resolve())), *filter(None, [os.environ.get("LD_LIBRARY_PATH")])]
         changes["LD_LIBRARY_PATH"] = ":".join(paths)

@@ -8,10 +8,11 @@ import subprocess
 from dataclasses import dataclass
 
 from parts import valgrind
+from parts.codes import Codes
 from parts.command import Fault
 from parts.machine import Machine
 
-LINE = re.compile(r" +kind ([0-9]+) (\w+) (\w+) ([0-9]+ [0-9a-f]{2} [0-9a-f]{2} u)")
+LINE = re.compile(r" +kind ([0-9]+) (\w+) (-|[0-9]+ [0-9a-f]{2} [0-9a-f]{2} u)")
 
 # What a kind asks of the machine that is modelled. The second and the third level are of data and
 # of instructions.
@@ -41,9 +42,8 @@ class Kind:
     heads: tuple[str, ...]  # of its lines, up to the amount
 
 
-def kinds_with(codes: str) -> list[Kind]:
+def kinds_with(codes: Codes) -> list[Kind]:
     """All kinds whose lines have one of these codes, in the tool's order."""
-    found: dict[int, Kind] = {}
     words = [str(valgrind.tool()), f"--tool={valgrind.NAME}", "--help-debug"]
     listed = subprocess.run(
         words,
@@ -52,14 +52,19 @@ def kinds_with(codes: str) -> list[Kind]:
         capture_output=True,
         text=True,
     )
+    own = {
+        name: tuple(f"0 {select:02x} {mask:02x} u" for select, mask in heads)
+        for name, heads in codes.lines
+    }
+    found: list[Kind] = []
     for match in filter(None, map(LINE.fullmatch, listed.stdout.splitlines())):
-        number, name, of_codes, head = match.groups()
-        if of_codes == codes:
-            before = found.get(int(number))
-            found[int(number)] = Kind(int(number), name, (*(before.heads if before else ()), head))
+        number, name, head = match.groups()
+        heads = own.get(name, ()) if own else (head,) * (head != "-")
+        if heads:
+            found.append(Kind(int(number), name, heads))
     if not found:
         raise Fault("the tool of Valgrind can't be run")
-    return [found[number] for number in sorted(found)]
+    return found
 
 
 def parts_for(names: set[str]) -> set[str]:

@@ -12,7 +12,7 @@ from pathlib import Path
 from typing import IO, Mapping
 
 from parts import valgrind
-from parts.codes import RECORDED
+from parts.codes import RECORDED, Codes
 from parts.command import Fault, Progress, uninterrupted
 from parts.machine import Machine
 from parts.symbols import entry_of, read_functions
@@ -40,7 +40,7 @@ class Wanted:
     source: IO[bytes] | None = None
     is_whole: bool = False  # as the system starts it: also what its loader does before the program's entry, and with its random bytes
     has_further: bool = False  # totals of what only other tools count
-    codes: str = RECORDED  # of the lines (parts/codes.py)
+    codes: Codes = RECORDED  # of the lines
 
 
 @dataclass
@@ -115,7 +115,7 @@ def record(wanted: Wanted, stream: str | None, label: str) -> Recorded:
 def _words(wanted: Wanted, path: str) -> list[str]:
     """The tool's words."""
     entry = entry_of(path)
-    words = [*wanted.machine.tool_words(), f"--counts={'yes' if wanted.has_further else 'no'}", "--tape=yes", f"--codes={wanted.codes}",
+    words = [*wanted.machine.tool_words(), f"--counts={'yes' if wanted.has_further else 'no'}", "--tape=yes", *wanted.codes.tool_words(),
              f"--window={wanted.window}", f"--entry={entry:#x}"]
     begin = entry_of_symbol(path, wanted.symbol) if wanted.symbol else entry
     words += ["--keep-random=yes"] if wanted.is_whole else [f"--from={begin:#x}"]

@@ -61,7 +61,7 @@ def count_words(name: str) -> argparse.ArgumentParser:
     )
     parser.add_argument("--library", metavar="FOLDER", help="where libpapi.so.7.0 of bin/install is; a program that is linked with PAPI takes it from there. "
                         "A tool that is installed knows its own")
-    parser.add_argument("--unit", metavar="UNIT", help="the unit file (examples/recorded.unit, or KISTALUB_UNIT)")
+    parser.add_argument("--unit", metavar="UNIT", help="the unit file, such as one of make_unit --counted (examples/recorded.unit, or KISTALUB_UNIT)")
     parser.add_argument("--presets", metavar="PRESETS", help="the preset file (examples/recorded.presets, or KISTALUB_PRESETS); goes with --cpu")
     parser.add_argument("--cpu", metavar="CPU", help="the processor of the preset file (recorded, or KISTALUB_CPU)")
     add_whole(parser)
@@ -104,8 +104,8 @@ def _add_program(parser: argparse.ArgumentParser) -> None:
 def _add_lines(parser: argparse.ArgumentParser) -> None:
     lines = parser.add_argument_group("the stream")
     lines.add_argument("--from", metavar="SYMBOL", dest="symbol", help="begin when this function is first entered")
-    lines.add_argument("--unit", metavar="UNIT", help="the unit file whose events are to count the stream: lines have the codes of Skylake's own events if it is one of "
-                       "make_unit for skl, skx or clx, and else those of examples/recorded.unit")
+    lines.add_argument("--unit", metavar="UNIT", help="the unit file whose events are to count the stream: one that make_unit --counted wrote, or one with the codes of "
+                       "examples/recorded.unit")
     lines.add_argument("--each", action="store_true", help="a line for each instruction, load and so on, in their order; without it, those at one "
                        "place are gathered to lines of up to 255")
     _add_window(lines)

@@ -86,6 +86,7 @@ class Choice:
     wanted: Umasks = frozenset()  # umasks that stay before others where an event has too many
     threads: bool = True  # a core has two
     watchdog: bool = False  # the kernel's holds a counter
+    is_counted: bool = False  # the unit gets codes of its own, so umasks of one event may have different select codes
 
 
 class Converter:
@@ -285,6 +286,8 @@ class Converter:
 
     def _of_one_select(self, event: Event, coded: list[CodedUmask], default: CodedUmask | None) -> list[CodedUmask]:
         """The umasks of the select code that the default has, or else most of them."""
+        if self.choice.is_counted:
+            return coded
         select = default.select if default else Counter(each.select for each in coded).most_common(1)[0][0]
         return self._keep(event, coded, [each for each in coded if each.select == select], "the umask changes the select code")
 

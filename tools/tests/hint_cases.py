@@ -314,9 +314,11 @@ MISLED = (
 COUNTING = "0 create\n0 add 0 INSTRUCTIONS\n0 add 0 LOADS\n0 start 0\n0 run 9\n0 stop 0\n"
 LESS = PRESETS + "EVENT,LESS,DERIVED_SUB,INSTRUCTIONS,LOADS:MISSES\n"
 NO_LINE = "counts 0: no line of the streams has its code"
-OTHERWISE = "counts something else in a recording than its name says: docs/RECORDING.md lists what, under Codes"
+OF_LINES = "counts lines of a recording, and not what its name says: docs/RECORDING.md has more under Codes"
+OWN_CODE = "has a code of the processor itself, and a recording has others: tools/make_unit skl --counted makes the unit for it"
 RECORDED = "# loaded at 0x0\n" + STREAM
 SKYLAKE = UNIT.replace(",mine", ",skl")
+COUNTED = "# counted: with the codes of recordings\n" + SKYLAKE
 SILENT = (
     refused("an event without a line", "papi_run -U u s t", COUNTING, "6 0 stop PAPI_OK 400 0", f"mine::LOADS:ALL {NO_LINE}, d0 with a bit of 03"),
     refused("a line of another umask", "papi_run -U u s t", COUNTING.replace("LOADS", "loads:misses"), "6 0 stop PAPI_OK 400 0",
@@ -338,19 +340,19 @@ SILENT = (
     refused("a stream of another thread", "papi_run -U u s t x", COUNTING, "6 0 stop PAPI_OK 400 0", x="0 d0 03 k 1 1\n"),
     refused("a refused event beside it", "papi_run -U u s t", COUNTING.replace("0 start", "0 add 0 LOADS\n0 start"), "4 0 add PAPI_EINVAL\n7 0 stop PAPI_OK 400 0",
             f"line 4: add 0 LOADS: {INVALID}: another component's, or in the set", f"mine::LOADS:ALL {NO_LINE}, d0 with a bit of 03"),
-    refused("Skylake over another recording", "papi_run -U u s t", COUNTING, "6 0 stop PAPI_OK 400 0", f"skl::LOADS {NO_LINE}, d0",
-            "tools/record --unit UNIT writes the codes of UNIT's own events, as far as docs/RECORDING.md lists them", u=SKYLAKE, t=RECORDED),
-    refused("Skylake over another stream", "papi_run -U u s t", COUNTING, "6 0 stop PAPI_OK 400 0", f"skl::LOADS {NO_LINE}, d0", u=SKYLAKE),
-    refused("Skylake over its own recording", "papi_run -U u s t", COUNTING, "6 0 stop PAPI_OK 400 0", f"skl::LOADS {NO_LINE}, d0", u=SKYLAKE,
+    refused("a unit to count over, over another recording", "papi_run -U u s t", COUNTING, "6 0 stop PAPI_OK 400 0", f"skl::LOADS {NO_LINE}, d0",
+            "tools/record --unit UNIT writes lines for the events of UNIT, if tools/make_unit PMU --counted made it", u=COUNTED, t=RECORDED),
+    refused("the same over another stream", "papi_run -U u s t", COUNTING, "6 0 stop PAPI_OK 400 0", f"skl::LOADS {NO_LINE}, d0", u=COUNTED),
+    refused("the same over a recording with umasks", "papi_run -U u s t", COUNTING, "6 0 stop PAPI_OK 400 0", f"skl::LOADS {NO_LINE}, d0", u=COUNTED,
             t=RECORDED.replace("c0 00", "c0 01")),
-    refused("an event of Skylake that counts something else", "papi_run -U u s t", COUNTING, "6 0 stop PAPI_OK 400 7", f"skl::LOADS:SPLIT {OTHERWISE}",
-            u=SKYLAKE + "UMASK,SPLIT,41,d,Split\n", t=RECORDED + "0 d0 01 u 7 1\n"),
-    refused("the same over another stream", "papi_run -U u s t", COUNTING, "6 0 stop PAPI_OK 400 7", u=SKYLAKE + "UMASK,SPLIT,41,d,Split\n", t=STREAM + "0 d0 01 u 7 1\n"),
-    refused("one with a least amount", "papi_run -U u s t", COUNTING, "6 0 stop PAPI_OK 400 1", f"skl::LOADS:MANY {OTHERWISE}",
-            u=SKYLAKE + "UMASK,MANY,81,d,Many\nUMASK_MODIFIERS,-,2\n", t=RECORDED + "0 d0 01 u 7 1\n"),
-    refused("one with a least amount of its own", "papi_run -U u s t", COUNTING.replace("LOADS", "LOADS:c=2"), "6 0 stop PAPI_OK 400 1", f"skl::LOADS:ALL:c=2 {OTHERWISE}",
-            u=SKYLAKE + "UMASK,ALL,81,d,All\n", t=RECORDED + "0 d0 01 u 7 1\n"),
-    refused("one that counts what it says", "papi_run -U u s t", COUNTING, "6 0 stop PAPI_OK 400 7", u=SKYLAKE + "UMASK,ALL,81,d,All\n", t=RECORDED + "0 d0 01 u 7 1\n"),
+    refused("a processor's own codes over a recording", "papi_run -U u s t", COUNTING, "6 0 stop PAPI_OK 400 7", f"skl::INSTRUCTIONS {OWN_CODE}", f"skl::LOADS {OWN_CODE}",
+            u=SKYLAKE, t=RECORDED + "0 d0 01 u 7 1\n"),
+    refused("the same over a stream of another maker", "papi_run -U u s t", COUNTING, "6 0 stop PAPI_OK 400 7", u=SKYLAKE, t=STREAM + "0 d0 01 u 7 1\n"),
+    refused("one with a least amount", "papi_run -U u s t", COUNTING, "6 0 stop PAPI_OK 400 1", f"skl::LOADS:MANY {OF_LINES}",
+            u=COUNTED + "UMASK,MANY,81,d,Many\nUMASK_MODIFIERS,-,2\n", t=RECORDED + "0 d0 01 u 7 1\n"),
+    refused("one with a least amount of its own", "papi_run -U u s t", COUNTING.replace("LOADS", "LOADS:c=2"), "6 0 stop PAPI_OK 400 1", f"skl::LOADS:ALL:c=2 {OF_LINES}",
+            u=COUNTED + "UMASK,ALL,81,d,All\n", t=RECORDED + "0 d0 01 u 7 1\n"),
+    refused("one that counts what it says", "papi_run -U u s t", COUNTING, "6 0 stop PAPI_OK 400 7", u=COUNTED + "UMASK,ALL,81,d,All\n", t=RECORDED + "0 d0 01 u 7 1\n"),
     refused("a profile of such an event", "papi_profil -U u -M m s t", SCRIPT.replace("INSTRUCTIONS", "LOADS"), "total 0", f"mine::LOADS:ALL {NO_LINE}, d0 with a bit of 03"),
     refused("a profile beside such an event", "papi_profil -U u -M m s t", SCRIPT.replace("0 start", "0 add 0 LOADS\n0 start"), "total 1",
             f"mine::LOADS:ALL {NO_LINE}, d0 with a bit of 03"),

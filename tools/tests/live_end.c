@@ -13,7 +13,9 @@ static int feeds;
 int kl_core_begins(thread_state *t) { return t != NULL; }
 void kl_core_ends(thread_state *t) { (void)t; }
 
-/* No unit, so the codes are those of a recording. */
+/* No word of tools/count, so the codes are those of a recording. */
+const char *kl_variable(const char *name) { return (void)name, NULL; }
+
 int kistalub_component(kistalub *h, uint32_t component, uint32_t part, uint32_t place, unsigned char *text, size_t room, uint64_t *length) {
     (void)h, (void)component, (void)part, (void)place, (void)text, (void)room, (void)length;
     return PAPI_EINVAL;
@@ -47,6 +49,7 @@ int main(int count, char **words) {
     static live_thread live;
     static thread_state thread = { .number = 3, .live = &live };
     if (count < 2) return 2;
+    live.codes = kl_codes_of(&thread.library);
     room_of_stream = strtoull(words[1], NULL, 10);
     for (int call = 0; call < CALLS; call++) {
         kl_amounts amounts = { { [KL_LOADS] = 255, [KL_STORES] = 8 } };

@@ -11,6 +11,7 @@ import unittest
 from collections import Counter
 from pathlib import Path
 
+from parts.processors import tables
 from tests.counted import HEAD, Counted
 from tests.support import ROOT, TOOLS, InFolder, installed, needs_command, needs_library, needs_program
 
@@ -86,25 +87,51 @@ class Programs(Counted):
         "EVENT,MEM_LOAD_RETIRED,d1,P0 P1,Loads\nUMASK,L1_HIT,01,n,Hits\nUMASK,L1_MISS,08,n,Misses\nEVENT,UOPS_ISSUED,0e,P0 P1,Operations\n" \
         "EVENT,UNHALTED_REFERENCE_CYCLES,00,P0 P1,Cycles\nUMASK,ALL,03,d,All\n"
     PRESETS = "CPU,skl\nPRESET,PAPI_BR_PRC,DERIVED_SUB,BR_INST_RETIRED:NEAR_TAKEN,BR_INST_RETIRED:FAR_BRANCH\n"
+    # The same events as far as the model counts them, with codes of their own.
+    COUNTED = "COMPONENT,cpu,skl\nCOUNTER,P0,48,P\nCOUNTER,P1,48,P\n" + "".join(
+        f"EVENT,{event},{tables()['skl'].select(event):02x},P0 P1,\n" + "".join(
+            f"UMASK,{umask},{mask:02x},{flags},\n" for umask, flags in umasks.items() for mask in [(tables()["skl"].code(event, umask) or (0, 0))[1]])
+        for event, umasks in {"INST_RETIRED": {"ANY_P": "dn", "PREC_DIST": "n"}, "BR_INST_RETIRED": {"NEAR_TAKEN": "dn", "NEAR_CALL": "n"}, "MEM_LOAD_RETIRED": {"L1_HIT": "n", "L1_MISS": "n"},
+                              "UNHALTED_REFERENCE_CYCLES": {"0x03": "d"}}.items())
     NOTHING = "papi: {} counts 0, since nothing that is counted here counts for it (docs/RECORDING.md)\n"
 
-    def files(self) -> tuple[str, ...]:
-        return "--unit", self.write("u", self.UNIT), "--presets", self.write("p", self.PRESETS), "--cpu", "skl"
+    def files(self, unit: str = UNIT, presets: str = PRESETS) -> tuple[str, ...]:
+        return "--unit", self.write("u", unit), "--presets", self.write("p", presets), "--cpu", "skl"
 
     def test_the_unit_decides_on_the_codes(self) -> None:
-        names = ("INST_RETIRED:ANY_P", "INST_RETIRED:PREC_DIST", "BR_INST_RETIRED:NEAR_TAKEN", "UNHALTED_REFERENCE_CYCLES", "MEM_LOAD_RETIRED:L1_HIT", "BR_INST_RETIRED:STARTS")
+        names = ("INST_RETIRED:ANY_P", "INST_RETIRED:PREC_DIST", "BR_INST_RETIRED:NEAR_TAKEN", "UNHALTED_REFERENCE_CYCLES", "MEM_LOAD_RETIRED:L1_HIT", "BR_INST_RETIRED:NEAR_TAKEN:e")
         kept = self.folder / "kept"
-        done = self.count(*self.files(), "--keep", str(kept), self.compile(self.NAMED), *names)
+        done = self.count(*self.files(self.COUNTED), "--keep", str(kept), self.compile(self.NAMED), *names)
         self.assertEqual((done.stderr, done.returncode), ("", 0))
         all_of, precise, taken, cycles, hits, starts = map(int, done.stdout.split()[: len(names)])
         self.assertTrue(2000 < all_of < 2020 and precise == all_of and 999 <= taken < 1005 and cycles >= all_of and hits < 10 and 0 < starts < 10, done.stdout)
         lines = Counter(line[:9] for line in kept.read_text(encoding="ascii").splitlines())
-        self.assertTrue(lines["0 c0 01 u"] and lines["0 00 03 u"] and not lines["0 c0 00 u"], lines)
+        (select, mask), = tables()["skl"].lines()["instructions"]
+        self.assertTrue(lines[f"0 {select:02x} {mask:02x} u"] and not lines["0 c0 00 u"], lines)
+
+    def test_a_unit_with_the_processor_s_own_codes_is_refused(self) -> None:
+        """Nothing runs, and no event takes the code of another."""
+        program = self.compile(self.NAMED)
+        for unit, cause in ((self.UNIT, "INST_RETIRED:ANY_P has a code of the processor itself: tools/make_unit skl --counted"),
+                            (self.UNIT.replace(",skl", ",nhm"), "there is no table of what is counted for the events of nhm; there are tables for "),
+                            (self.COUNTED + "EVENT,UOPS_ISSUED,0e,P0 P1,\n", "nothing that is counted here is counted by UOPS_ISSUED")):
+            done = self.count(*self.files(unit), program, "INST_RETIRED")
+            self.assertEqual((done.stdout, done.returncode), ("", 1))
+            self.assertIn(cause, done.stderr)
+
+    def test_codes_of_another_component_are_not_taken(self) -> None:
+        """A program that names a unit of its own finds no lines of the one that tools/count has told of."""
+        program = self.compile("#include <unistd.h>\n" + self.NAMED.replace("for (int turn", "if (!getenv(\"AGAIN\")) { setenv(\"AGAIN\", \"1\", 1); setenv(\"KISTALUB_UNIT\", getenv(\"OTHER\"), 1); "
+                                                  "execv(words[0], words); }\n        for (int turn"))
+        os.environ["OTHER"] = self.write("other", self.UNIT)
+        self.addCleanup(os.environ.pop, "OTHER")
+        done = self.count(program, "INST_RETIRED")
+        self.assertEqual((done.stdout, done.stderr, done.returncode), ("0 0 ", self.NOTHING.format("skl::INST_RETIRED:ANY_P"), 0))
 
     def test_what_counts_nothing_is_told_once(self) -> None:
         program = self.compile(self.NAMED)
-        done = self.count(*self.files(), program, "UOPS_ISSUED", "PAPI_BR_PRC", "BR_INST_RETIRED:FAR_BRANCH:e", "INST_RETIRED:k")
-        wanted = ("skl::UOPS_ISSUED", "skl::BR_INST_RETIRED:FAR_BRANCH", "skl::BR_INST_RETIRED:FAR_BRANCH:e", "skl::INST_RETIRED:ANY_P:k")
+        done = self.count(*self.files(self.COUNTED, self.PRESETS.replace("FAR_BRANCH", "NEAR_CALL:k")), program, "MEM_LOAD_RETIRED:L1_MISS:k", "PAPI_BR_PRC", "BR_INST_RETIRED:NEAR_CALL:k:e", "INST_RETIRED:k")
+        wanted = ("skl::MEM_LOAD_RETIRED:L1_MISS:k", "skl::BR_INST_RETIRED:NEAR_CALL:k", "skl::BR_INST_RETIRED:NEAR_CALL:k:e", "skl::INST_RETIRED:ANY_P:k")
         self.assertEqual((done.stderr, done.returncode), ("".join(self.NOTHING.format(name) for name in wanted), 0))
         values = list(map(int, done.stdout.split()))
         self.assertTrue(values[0] == values[2] == values[3] == 0 and 999 <= values[1] < 1005 and values[4:] == values[:4], values)

@@ -16,7 +16,6 @@ from formats.presets import SYMBOLS
 from formats.scripts import CALLS, REGION_CALLS
 from formats.texts import LONGEST, cut, plain
 from hinting import hints_on
-from silent import OTHERWISE
 from tests.hint_cases import CASES, FILES, NO_LINE, Case
 from tests.hint_edges import EDGES
 from tests.support import PROGRAM, ROOT, InFolder, needs_libpfm4, needs_program, run_tool
@@ -33,24 +32,6 @@ def make_tree(folder: Path) -> Path:
     (folder / "crates.txt").touch()
     os.utime(folder / "crates.txt", (0, 0))
     return Path(shutil.copytree(ROOT / "bin", folder / "bin"))
-
-
-class Skylake(unittest.TestCase):
-    @needs_libpfm4
-    def test_what_counts_something_else_is_what_the_document_lists(self) -> None:
-        rows = (ROOT / "docs/RECORDING.md").read_text(encoding="utf-8").partition("| Event of Skylake | What is counted |\n|---|---|\n")[2].partition("\n\n")[0].splitlines()
-        listed, event = [], ""
-        for row in rows:
-            for begin, umask in re.findall(r"`(\w*):(\w+)`", row.partition(" | ")[0]) if not row.startswith("| with ") else []:
-                event = begin or event
-                listed.append((event, umask))
-        unit, codes = run_tool("make_unit", "skl").stdout.splitlines(), {}
-        for kind, name, code, *_ in (line.split(",") for line in unit if line.startswith(("EVENT,", "UMASK,"))):
-            if kind == "EVENT":
-                event, select = name, int(code, 16)
-            codes[event, name] = (select, int(code, 16))
-        self.assertGreater(len(listed), 10)
-        self.assertEqual({codes[each] for each in listed}, {(select, mask) for select, masks in OTHERWISE.items() for mask in masks})
 
 
 class Hints(InFolder):

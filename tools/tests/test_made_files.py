@@ -41,8 +41,9 @@ class Made(InFolder):
             self.assertEqual(made.read_bytes(), whole)
 
     def test_pages(self) -> None:
-        self.copy("bin/usage", "examples", "docs/TOOLS.md", "man", "include")
-        self.check("make_pages", self.folder / "docs/TOOLS.md")
+        self.copy("bin/usage", "examples", "docs/TOOLS.md", "docs/COUNTED.md", "man", "include")
+        for name in ("docs/TOOLS.md", "docs/COUNTED.md"):
+            self.check("make_pages", self.folder / name)
         shutil.rmtree(self.folder / "man")
         self.assertEqual(self.run_tool("make_pages"), (0, "", ""))
         self.check("make_pages", self.folder / "man/papi_run.1")

@@ -14,10 +14,11 @@ from pathlib import Path
 from unittest import mock
 
 from parts import valgrind
-from parts.codes import RECORDED, SKYLAKE, codes_of
+from parts.codes import codes_of
 from parts.command import Fault
 from parts.counting import Counting, _changes
 from parts.machine import MACHINES, Shape, read_buffer, read_cache, read_costs, read_predictor
+from parts.processors import tables
 from parts.ranks import of_rank
 from tests.support import ROOT, TOOLS, InFolder, all_of, needs_command, needs_libpfm4, needs_program, run_program, run_tool, some
 
@@ -101,16 +102,34 @@ class Words(unittest.TestCase):
             self.assertEqual(run_tool("record", *words).returncode, 2, words)
         self.assertEqual(run_tool("record", "--help").returncode, 0)
 
-    def test_the_unit_decides_on_the_codes(self) -> None:
-        for pmu, wanted in (("skl", SKYLAKE), ("SKX", SKYLAKE), ("clx", SKYLAKE), ("icl", RECORDED), ("recorded", RECORDED), ("skl2", RECORDED)):
-            with tempfile.NamedTemporaryFile("w", suffix=".unit") as unit:
-                unit.write(f"\ufeff# COMPONENT,a,b\r\n\n COMPONENT , cpu,\t{pmu} \nCOMPONENT,other,skl\n")
-                unit.flush()
-                self.assertEqual(codes_of(unit.name), wanted, pmu)
+    def codes(self, text: str) -> tuple[str, bool]:
+        """The pmu of a unit's codes, and whether they are those of a table."""
         with tempfile.NamedTemporaryFile("w", suffix=".unit") as unit:
-            self.assertEqual(codes_of(unit.name), RECORDED)
+            unit.write(text)
+            unit.flush()
+            codes = codes_of(unit.name)
+            return codes.pmu, bool(codes.lines)
+
+    def test_the_unit_decides_on_the_codes(self) -> None:
+        for pmu, has_table in (("skl", True), ("SKX", True), ("icx", True), ("amd64_fam19h_zen4", True), ("nhm", False), ("recorded", False), ("skl2", False)):
+            head = f"\ufeff# COMPONENT,a,b\r\n\n COMPONENT , cpu,\t{pmu} \nCOMPONENT,other,skl\n"
+            self.assertEqual(self.codes(head), (pmu, has_table), pmu)
+        self.assertEqual(self.codes(""), ("", False))
         done = run_tool("record", "--unit", "/no/such.unit", "true")
         self.assertEqual((done.stdout, done.stderr.startswith("record: "), done.returncode > 0), ("", True, True))
+
+    def test_units_whose_events_would_count_something_else(self) -> None:
+        """A unit of a user has codes of examples/recorded.unit, and one of a processor those of its table."""
+        mine = "COMPONENT,cpu,mine\nCOUNTER,P0,48,P\n"
+        rows = "EVENT,INS,c0,P0,\nEVENT,BR,c4,P0,\nUMASK,TAKEN,20,-,\nUMASK,ALL,a5,-,\nEVENT,ALL_L2,25,P0,\n"
+        self.assertEqual(self.codes(mine + rows), ("mine", False))
+        for row, name in (("EVENT,OTHER,c9,P0,", "OTHER"), ("EVENT,INS2,c0,P0,\nUMASK,SOME,01,-,", "INS2:SOME"), ("EVENT,MEM,d0,P0,\nUMASK,LOCKED,21,-,", "MEM:LOCKED")):
+            with self.assertRaisesRegex(Fault, f"{name} has a code that examples/recorded.unit has not.* there are tables for amd64_fam17h_zen1 .* skl "):
+                self.codes(mine + rows + row + "\n")
+        for row, cause in (("EVENT,INST_RETIRED,c0,P0,\nUMASK,ANY_P,00,d,", "INST_RETIRED:ANY_P has a code of the processor itself: tools/make_unit skl --counted"),
+                           ("EVENT,BACLEARS,05,P0,\nUMASK,ANY,01,d,", "nothing that is counted here is counted by BACLEARS:ANY: tools/make_unit skl --counted")):
+            with self.assertRaisesRegex(Fault, cause):
+                self.codes("COMPONENT,cpu,skl\nCOUNTER,P0,48,P\n" + row + "\n")
 
     def test_files_of_ranks(self) -> None:
         self.assertEqual(of_rank("plain"), "plain")
@@ -161,8 +180,8 @@ class RealProgram(InFolder):
         self.assertEqual(self.totals(), gathered)
         self.assertGreater(Path(self.stream).stat().st_size, 10 * size)
 
-    def test_the_codes_of_skylake(self) -> None:
-        """The same occurrences, with further lines; hits of the first level are what is left of the loads."""
+    def test_the_lines_of_a_table(self) -> None:
+        """Each quantity has as many occurrences in each of its lines as in its line for examples/recorded.unit. Hits of the first level are what is left of the loads."""
         unit = self.write("unit", "COMPONENT,cpu,skl\n")
         small = ("--l1d", "512,8,64", "--l2", "512,2,64", "--l3", "1024,4,64", "-o", self.stream)
         run_tool("record", *small, self.program)
@@ -171,16 +190,17 @@ class RealProgram(InFolder):
         new = self.totals()
         run_tool("record", "--unit", unit, "--each", *small, self.program)
         self.assertEqual(self.totals(), new)
-        wanted = {
-            "c0 01": old["c0 00"], "3c 00": old["3c 00"], "00 03": old["3c 00"], "d1 01": old["d0 01"] - old["51 03"], "d1 08": old["51 03"],
-            "d1 02": old["25 01"], "d1 10": old["25 09"], "d1 04": old["2f 01"], "d1 20": old["2f 09"],
-            "24 01": old["25 09"], "24 02": old["25 12"], "24 04": old["25 24"], "24 40": old["25 04"],
-            "2e 0e": old["2f 01"] + old["2f 02"] + old["2f 04"], "2e 4f": old["2f 09"] + old["2f 12"] + old["2f 24"],
-            "08 03": old["08 01"], "49 03": old["49 01"], "85 03": old["85 01"],
-        }
-        own = ("c0 00", "25", "2f", "08 01", "49 01", "85 01")
-        self.assertEqual(new, Counter({code: total for code, total in {**old, **wanted}.items() if total and not code.startswith(own)}))
-        self.assertTrue(all_of((new["d1 01"], new["d1 08"], new["24 01"], new["2e 4f"]), bool), new)
+        table = tables()["skl"]
+        self.assertEqual(set(new) - {f"{select:02x} {mask:02x}" for codes in table.lines().values() for select, mask in codes}, set())
+        recorded = {"instructions": "c0 00", "cycles": "3c 00", "stalls": "a2 01", "loads": "d0 01", "stores": "d0 02", "l1d_load_misses": "51 03", "l1d_store_misses": "51 05",
+                    "l1i_misses": "83 02", "l2_load_hits": "25 01", "l2_load_misses": "25 09", "l2_store_misses": "25 12", "l2_fetch_hits": "25 04", "l2_fetch_misses": "25 24",
+                    "l3_load_hits": "2f 01", "l3_load_misses": "2f 09", "l3_store_misses": "2f 12", "l3_fetch_misses": "2f 24", "dtlb_load_misses": "08 01", "itlb_misses": "85 01",
+                    "conditional_taken": "c4 a5", "conditional_not_taken": "c4 15", "jumps": "c4 24", "calls": "c4 26", "returns": "c4 2c", "mispredicted_taken": "c5 25"}
+        for quantity, codes in table.lines().items():
+            wanted = old["d0 01"] - old["51 03"] if quantity == "load_hits" else old[recorded[quantity]] if quantity in recorded else None
+            if wanted is not None:
+                self.assertEqual([new[f"{select:02x} {mask:02x}"] for select, mask in codes], [wanted] * len(codes), quantity)
+        self.assertGreater(len([quantity for quantity in recorded if old[recorded[quantity]]]), 10)
 
     def test_two_recordings_have_the_same_bytes(self) -> None:
         both = []
@@ -236,7 +256,7 @@ class RealProgram(InFolder):
     @needs_libpfm4
     def test_the_events_of_a_real_processor(self) -> None:
         events = ["INST_RETIRED:ANY_P", "MEM_INST_RETIRED:ALL_LOADS", "MEM_INST_RETIRED:ALL_STORES", "L1D:REPLACEMENT"]
-        unit = self.write("skl.unit", run_tool("make_unit", "skl").stdout)
+        unit = self.write("skl.unit", run_tool("make_unit", "skl", "--counted").stdout)
         told, counted = self.count(unit, events, [])
         self.assertEqual(counted, " ".join(told))
 

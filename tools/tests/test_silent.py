@@ -109,16 +109,12 @@ class Silent(InFolder):
         (self.folder / "two words").write_text(line())
         self.assertFalse(self.may_be("papi_run", "-U", "u", "s", "two words", s=adding("LOADS")))
 
-    def test_what_skylake_counts_otherwise(self) -> None:
-        right = {0x24: {0x21, 0x22, 0x24, 0x27, 0x3F, 0x38, 0xE4}, 0xD0: set(range(0x80, 0x100)), 0xC4: set(range(0x100))}
-        for pmu, is_its in (("skl", True), ("SKX", True), ("clx", True), ("icl", False)):
-            for select, masks in right.items():
-                for mask in (0x20, 0x21, 0x22, 0x24, 0x27, 0x38, 0x3F, 0x40, 0xE4, 0xE5, 0x7F, 0x80, 0x81):
-                    unit = MANY.format(select=f"{select:02X}", mask=f"{mask:02x}").replace("mine", pmu)
-                    for name in ("ANY", "ANY:SOME") if mask in (0x20, 0x21) else ("ANY",):
-                        self.check(WORDS, (is_its and mask not in masks, adding(name), line(f"{select:02x}", "ff")), u=unit)
-        for pmu, wanted in (("skl", True), ("mine", False)):
-            unit = MANY.format(select="c4", mask="01").replace("mine", pmu)
-            self.check(WORDS, (wanted, adding("ANY:c=1"), line("c4")), (False, adding("ANY"), line("c4")), u=unit)
-            self.check(WORDS, (wanted, adding("ANY"), line("c4")), u=unit + "UMASK_MODIFIERS,-,2\n")
-            self.check(WORDS, (False, adding("ANY"), line("c4")), u=unit + "EVENT,MORE,c5,C0,More\nUMASK,SOME,04,-,\nUMASK_MODIFIERS,-,2\n")
+    def test_what_counts_otherwise_in_a_recording(self) -> None:
+        """All events with a processor's own codes, and over a unit with the codes of recordings those with a least amount."""
+        for pmu, is_processor in (("skl", True), ("SKX", True), ("hsw_ep", True), ("amd64_fam17h_zen2", True), ("mine", False), ("skl2", False)):
+            for head, is_own in (("", True), ("# counted: so\n", False)):
+                unit = head + MANY.format(select="c4", mask="01").replace("mine", pmu)
+                self.check(WORDS, (is_processor, adding("ANY:c=1"), line("c4")), (is_processor and is_own, adding("ANY"), line("c4")), u=unit)
+                self.check(WORDS, (is_processor, adding("ANY"), line("c4")), u=unit + "UMASK_MODIFIERS,-,2\n")
+                more = "EVENT,MORE,c5,C0,More\nUMASK,SOME,04,-,\nUMASK_MODIFIERS,-,2\n"
+                self.check(WORDS, (is_processor and is_own, adding("ANY"), line("c4")), u=unit + more)

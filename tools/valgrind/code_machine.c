@@ -45,7 +45,7 @@ static IRExpr *access_differs(code *c, const cache *part, UInt used, IRExpr *add
 }
 
 /* Loads that find their line are on the tape, if its lines have a code for them. */
-static Bool notes_hits(const access *a) { return a->loads && words.has_tape && kind_heads[words.codes][LOAD_HITS][0]; }
+static Bool notes_hits(const access *a) { return a->loads && words.has_tape && words.codes[LOAD_HITS].count; }
 
 /* Not 0 if the machine has to be asked; NULL if it always has. */
 static IRExpr *machine_differs(code *c, const access *a) {

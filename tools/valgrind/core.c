@@ -96,6 +96,7 @@ void kinds_add_up(ULong all[ALL_KINDS]) {
     all[KL_ERRED_NOT_TAKEN] += all[WRONG_NOT_TAKEN];
     all[KL_STALLS] += words.costs[BRANCH_ERRED] * (all[WRONG_TAKEN] + all[WRONG_NOT_TAKEN]);
     all[KL_CYCLES] += all[KL_INSTRUCTIONS] + all[KL_STALLS];
+    all[LOAD_HITS] = all[KL_LOADS] - all[KL_L1D_LOAD_MISSES];
 }
 
 void core_sums(const core *c, ULong all[ALL_KINDS]) {

@@ -1,34 +1,20 @@
 #include "kinds.h"
 
-/* The same for both: Skylake's own codes are those of examples/recorded.unit as far as it has an event of the meaning. */
-#define COMMON \
-    [KL_STALLS] = {"0 a2 01 u"}, [KL_LOADS] = {"0 d0 01 u"}, [KL_STORES] = {"0 d0 02 u"}, [KL_L1I_MISSES] = {"0 83 02 u"}, \
-    [KL_TAKEN] = {"0 c4 a5 u"}, [KL_NOT_TAKEN] = {"0 c4 15 u"}, [KL_JUMPS] = {"0 c4 24 u"}, [KL_CALLS] = {"0 c4 26 u"}, [KL_RETURNS] = {"0 c4 2c u"}, \
-    [KL_ERRED_TAKEN] = {"0 c5 25 u"}, [KL_ERRED_NOT_TAKEN] = {"0 c5 05 u"}, \
-    [KL_SCALAR_DOUBLES] = {"0 c7 01 u"}, [KL_SCALAR_SINGLES] = {"0 c7 02 u"}, [KL_DOUBLES_128] = {"0 c7 04 u"}, [KL_SINGLES_128] = {"0 c7 08 u"}, \
-    [KL_DOUBLES_256] = {"0 c7 10 u"}, [KL_SINGLES_256] = {"0 c7 20 u"}, [KL_DOUBLES_512] = {"0 c7 40 u"}, [KL_SINGLES_512] = {"0 c7 80 u"}, \
-    [KL_X87S] = {"0 10 01 u"}
+#define ONE(head) {1, {head}}
 
-/* L2_RQSTS (24) has a bit for who asks and one for the outcome, and an occurrence is counted by each event that shares a bit with it. So not all of its events can be right:
- * those of misses are, and that of all fetches. */
-const kind_lines kind_heads[CODES][LINE_KINDS] = {
-    [RECORDED_CODES] = {
-        COMMON, [KL_INSTRUCTIONS] = {"0 c0 00 u"}, [KL_CYCLES] = {"0 3c 00 u"}, [KL_L1D_LOAD_MISSES] = {"0 51 03 u"}, [KL_L1D_STORE_MISSES] = {"0 51 05 u"},
-        [KL_L2_LOAD_HITS] = {"0 25 01 u"}, [KL_L2_STORE_HITS] = {"0 25 02 u"}, [KL_L2_FETCH_HITS] = {"0 25 04 u"},
-        [KL_L2_LOAD_MISSES] = {"0 25 09 u"}, [KL_L2_STORE_MISSES] = {"0 25 12 u"}, [KL_L2_FETCH_MISSES] = {"0 25 24 u"},
-        [KL_L3_LOAD_HITS] = {"0 2f 01 u"}, [KL_L3_STORE_HITS] = {"0 2f 02 u"}, [KL_L3_FETCH_HITS] = {"0 2f 04 u"},
-        [KL_L3_LOAD_MISSES] = {"0 2f 09 u"}, [KL_L3_STORE_MISSES] = {"0 2f 12 u"}, [KL_L3_FETCH_MISSES] = {"0 2f 24 u"},
-        [KL_DTLB_LOAD_MISSES] = {"0 08 01 u"}, [KL_DTLB_STORE_MISSES] = {"0 49 01 u"}, [KL_ITLB_MISSES] = {"0 85 01 u"},
-    },
-    [SKYLAKE_CODES] = {
-        COMMON, [KL_INSTRUCTIONS] = {"0 c0 01 u"}, [KL_CYCLES] = {"0 3c 00 u", "0 00 03 u"}, [LOAD_HITS] = {"0 d1 01 u"},
-        [KL_L1D_LOAD_MISSES] = {"0 51 03 u", "0 d1 08 u"}, [KL_L1D_STORE_MISSES] = {"0 51 05 u"},
-        [KL_L2_LOAD_HITS] = {"0 d1 02 u"}, [KL_L2_FETCH_HITS] = {"0 24 40 u"},
-        [KL_L2_LOAD_MISSES] = {"0 24 01 u", "0 d1 10 u"}, [KL_L2_STORE_MISSES] = {"0 24 02 u"}, [KL_L2_FETCH_MISSES] = {"0 24 04 u"},
-        [KL_L3_LOAD_HITS] = {"0 2e 0e u", "0 d1 04 u"}, [KL_L3_STORE_HITS] = {"0 2e 0e u"}, [KL_L3_FETCH_HITS] = {"0 2e 0e u"},
-        [KL_L3_LOAD_MISSES] = {"0 2e 4f u", "0 d1 20 u"}, [KL_L3_STORE_MISSES] = {"0 2e 4f u"}, [KL_L3_FETCH_MISSES] = {"0 2e 4f u"},
-        [KL_DTLB_LOAD_MISSES] = {"0 08 03 u"}, [KL_DTLB_STORE_MISSES] = {"0 49 03 u"}, [KL_ITLB_MISSES] = {"0 85 03 u"},
-    },
+const line_codes recorded_codes = {
+    [KL_INSTRUCTIONS] = ONE("0 c0 00 u"), [KL_CYCLES] = ONE("0 3c 00 u"), [KL_STALLS] = ONE("0 a2 01 u"), [KL_LOADS] = ONE("0 d0 01 u"), [KL_STORES] = ONE("0 d0 02 u"),
+    [KL_L1D_LOAD_MISSES] = ONE("0 51 03 u"), [KL_L1D_STORE_MISSES] = ONE("0 51 05 u"), [KL_L1I_MISSES] = ONE("0 83 02 u"),
+    [KL_L2_LOAD_HITS] = ONE("0 25 01 u"), [KL_L2_STORE_HITS] = ONE("0 25 02 u"), [KL_L2_FETCH_HITS] = ONE("0 25 04 u"),
+    [KL_L2_LOAD_MISSES] = ONE("0 25 09 u"), [KL_L2_STORE_MISSES] = ONE("0 25 12 u"), [KL_L2_FETCH_MISSES] = ONE("0 25 24 u"),
+    [KL_L3_LOAD_HITS] = ONE("0 2f 01 u"), [KL_L3_STORE_HITS] = ONE("0 2f 02 u"), [KL_L3_FETCH_HITS] = ONE("0 2f 04 u"),
+    [KL_L3_LOAD_MISSES] = ONE("0 2f 09 u"), [KL_L3_STORE_MISSES] = ONE("0 2f 12 u"), [KL_L3_FETCH_MISSES] = ONE("0 2f 24 u"),
+    [KL_DTLB_LOAD_MISSES] = ONE("0 08 01 u"), [KL_DTLB_STORE_MISSES] = ONE("0 49 01 u"), [KL_ITLB_MISSES] = ONE("0 85 01 u"),
+    [KL_TAKEN] = ONE("0 c4 a5 u"), [KL_NOT_TAKEN] = ONE("0 c4 15 u"), [KL_JUMPS] = ONE("0 c4 24 u"), [KL_CALLS] = ONE("0 c4 26 u"), [KL_RETURNS] = ONE("0 c4 2c u"),
+    [KL_ERRED_TAKEN] = ONE("0 c5 25 u"), [KL_ERRED_NOT_TAKEN] = ONE("0 c5 05 u"),
+    [KL_SCALAR_DOUBLES] = ONE("0 c7 01 u"), [KL_SCALAR_SINGLES] = ONE("0 c7 02 u"), [KL_DOUBLES_128] = ONE("0 c7 04 u"), [KL_SINGLES_128] = ONE("0 c7 08 u"),
+    [KL_DOUBLES_256] = ONE("0 c7 10 u"), [KL_SINGLES_256] = ONE("0 c7 20 u"), [KL_DOUBLES_512] = ONE("0 c7 40 u"), [KL_SINGLES_512] = ONE("0 c7 80 u"),
+    [KL_X87S] = ONE("0 10 01 u"),
 };
 
 const char *const kind_names[ALL_KINDS] = {
@@ -45,3 +31,55 @@ const char *const kind_names[ALL_KINDS] = {
     [KL_DOUBLES_256] = "double_256", [KL_SINGLES_256] = "single_256", [KL_DOUBLES_512] = "double_512", [KL_SINGLES_512] = "single_512", [KL_X87S] = "x87",
     [LOAD_HITS] = "load_hits", [LOCKED] = "locked", [REPEATED] = "repeated", [TURNS] = "turns", [MODIFIES] = "modifies",
 };
+
+/* -- codes as text -- */
+
+#define CODE_LENGTH 4
+
+static int is_code(const char *text) {
+    for (int i = 0; i < CODE_LENGTH; i++)
+        if (!((text[i] >= '0' && text[i] <= '9') || (text[i] >= 'a' && text[i] <= 'f'))) return 0;
+    return 1;
+}
+
+/* The kind whose name the text begins with before a colon, and how long that is; LINE_KINDS if there is none. */
+static int kind_at(const char *text, unsigned *length) {
+    for (int kind = 0; kind < LINE_KINDS; kind++) {
+        const char *name = kind_names[kind];
+        unsigned i = 0;
+        while (name && name[i] && name[i] == text[i]) i++;
+        *length = i + 1;
+        if (name && !name[i] && text[i] == ':') return kind;
+    }
+    return LINE_KINDS;
+}
+
+static void add_head(kind_lines *to, const char *code) {
+    const char made[HEAD_LENGTH + 1] = {'0', ' ', code[0], code[1], ' ', code[2], code[3], ' ', 'u', 0};
+    for (int i = 0; i <= HEAD_LENGTH; i++) to->of[to->count][i] = made[i];
+    to->count++;
+}
+
+/* The codes of a kind, up to the end or a comma. Gives where that is, or NULL if they are not right. */
+static const char *read_heads(const char *text, kind_lines *to) {
+    for (;;) {
+        if (to->count == MOST_HEADS || !is_code(text)) return 0;
+        add_head(to, text);
+        text += CODE_LENGTH;
+        if (*text != '+') return *text == 0 || *text == ',' ? text : 0;
+        text++;
+    }
+}
+
+int read_codes(const char *text, line_codes to) {
+    for (int kind = 0; kind < LINE_KINDS; kind++) to[kind].count = 0;
+    while (*text) {
+        unsigned length;
+        int kind = kind_at(text, &length);
+        if (kind == LINE_KINDS || to[kind].count) return 0;
+        text = read_heads(text + length, &to[kind]);
+        if (!text) return 0;
+        text += *text == ',';
+    }
+    return 1;
+}

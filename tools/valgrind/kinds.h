@@ -24,12 +24,16 @@ enum {
 
 extern const char *const kind_names[ALL_KINDS];
 
-/* The codes that lines have (docs/RECORDING.md): those of examples/recorded.unit, or those of Intel's Skylake, as libpfm4 has them. */
-typedef enum { RECORDED_CODES, SKYLAKE_CODES, CODES } line_codes;
+/* The lines of one occurrence of a kind up to their amounts (docs/FORMATS.md), such as "0 c0 00 u". No two of them have the same select code. */
+#define MOST_HEADS 8
+#define HEAD_LENGTH 9
+typedef struct { unsigned count; char of[MOST_HEADS][HEAD_LENGTH + 1]; } kind_lines;
+typedef kind_lines line_codes[LINE_KINDS];
 
-/* The lines of one occurrence up to their amounts (docs/FORMATS.md). No two of them have the same select code. */
-#define MOST_HEADS 2
-typedef const char *kind_lines[MOST_HEADS];
-extern const kind_lines kind_heads[CODES][LINE_KINDS];
+/* Those of examples/recorded.unit. */
+extern const line_codes recorded_codes;
+
+/* Reads codes: `KIND:SSUU+SSUU,..`, a select code and a umask in hexadecimal digits for each line. A kind that is not named has none. Gives whether they are right. */
+int read_codes(const char *text, line_codes to);
 
 #endif

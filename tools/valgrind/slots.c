@@ -73,12 +73,9 @@ static void make_line(full_line *line, const HChar *head, Addr pc) {
 }
 
 static full_lines *make_lines(const slot *s) {
-    const char *const *heads = kind_heads[words.codes][s->kind];
-    full_lines *lines = VG_(calloc)("slots", 1, sizeof *lines);
-    while (lines->count < MOST_HEADS && heads[lines->count]) {
-        make_line(&lines->of[lines->count], heads[lines->count], s->pc);
-        lines->count++;
-    }
+    const kind_lines *heads = words.codes + s->kind;
+    full_lines *lines = VG_(calloc)("slots", 1, sizeof *lines + heads->count * sizeof *lines->of);
+    for (; lines->count < heads->count; lines->count++) make_line(&lines->of[lines->count], heads->of[lines->count], s->pc);
     return lines;
 }
 

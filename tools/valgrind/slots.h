@@ -19,7 +19,7 @@ Addr slot_pc(UInt slot);
 typedef struct { UChar digits, place, length; HChar text[45]; } full_line;
 
 /* The lines of a slot, by the codes of the tool's words. A kind may have none. */
-typedef struct { UInt count; full_line of[MOST_HEADS]; } full_lines;
+typedef struct { UInt count; full_line of[]; } full_lines;
 const full_lines *slot_lines(UInt slot);
 
 /* Rooms for all slots that there may be. They are 0, and take memory when they are used. */

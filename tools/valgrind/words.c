@@ -14,6 +14,7 @@
 all_words words = {
     .has_counts = True, .process = "1", .kinds = ~0UL,
     .threads = ANY_THREAD, .stream = -1, .report = -1, .window = 65536, .most_amount = 255,
+    .codes = recorded_codes,
     .l1d = {512, 8, 64}, .l1i = {512, 8, 64}, .l2 = {4096, 4, 64}, .l3 = {131072, 16, 64}, .dtlb = {64, 4, 4096}, .itlb = {128, 8, 4096},
     .mhz = 1000, .predictor_bits = 14, .costs = {8, 38, 200, 20, 16},
 };
@@ -58,6 +59,15 @@ static Bool take_costs(const HChar *word) {
     return True;
 }
 
+static Bool take_codes(const HChar *word) {
+    static line_codes own;
+    const HChar *text;
+    if (!VG_STR_CLO(word, "--codes", text)) return False;
+    if (!read_codes(text, own)) VG_(fmsg_bad_option)(word, "KIND:SSUU+SSUU,..\n");
+    words.codes = own;
+    return True;
+}
+
 static Bool take_lines(const HChar *word) {
     Long number;
     if (VG_BOOL_CLO(word, "--tape", words.has_tape)) {
@@ -65,8 +75,6 @@ static Bool take_lines(const HChar *word) {
     } else if (VG_BINT_CLO(word, "--window", words.window, 1, MOST_WINDOW)) {
     } else if (VG_BINT_CLO(word, "--most-amount", number, 0, NO_LIMIT)) {
         words.most_amount = number ? (Int)number : NO_LIMIT;
-    } else if (VG_XACT_CLO(word, "--codes=recorded", words.codes, RECORDED_CODES)) {
-    } else if (VG_XACT_CLO(word, "--codes=skl", words.codes, SKYLAKE_CODES)) {
     } else if (VG_INT_CLO(word, "--stream", number)) {
         words.stream = (Int)number;
     } else if (VG_STR_CLO(word, "--streams", words.streams)) {
@@ -122,14 +130,14 @@ Bool words_take(const HChar *word) {
     if (VG_XACT_CLO(word, "--rep=lines", words.has_rep_lines, True)) return True;
     if (VG_BOOL_CLO(word, "--library", words.counts_library)) return True;
     if (VG_BINT_CLO(word, "--mhz", words.mhz, 1, MOST_MHZ)) return True;
-    return take_shape(word) || take_costs(word) || take_lines(word) || take_begin(word) ||
-           take_totals(word);
+    return take_shape(word) || take_costs(word) || take_codes(word) || take_lines(word) ||
+           take_begin(word) || take_totals(word);
 }
 
 /* A kind that is counted by others has those too. */
 void words_end(void) {
     static const UChar needs[][2] = {
-        {KL_CYCLES, KL_STALLS},
+        {KL_CYCLES, KL_STALLS}, {LOAD_HITS, KL_LOADS}, {LOAD_HITS, KL_L1D_LOAD_MISSES},
         {KL_TAKEN, LEFT_TAKEN}, {KL_TAKEN, STAYED_NOT_TAKEN}, {KL_TAKEN, STAYED_TAKEN},
         {KL_NOT_TAKEN, LEFT_NOT_TAKEN}, {KL_NOT_TAKEN, STAYED_TAKEN},
         {KL_NOT_TAKEN, STAYED_NOT_TAKEN},
@@ -153,7 +161,7 @@ void words_print(void) {
                 "    --each=yes|no            a line for each occurrence [no]\n"
                 "    --window=N               instructions among which lines are gathered [65536]\n"
                 "    --most-amount=N          of a line, 0 for no limit [255]\n"
-                "    --codes=recorded|skl     of the lines: those of examples/recorded.unit, or Skylake's own [recorded]\n"
+                "    --codes=KIND:SSUU+SSUU,..  of the lines: a select code and a umask for each [those of examples/recorded.unit]\n"
                 "    --stream=DESCRIPTOR      where the lines of all threads go; without it requests fetch them\n"
                 "    --streams=FILE           where those of each thread go, with its number for %%t\n"
                 "    --report=DESCRIPTOR      where totals and what ended the run are told\n"
@@ -172,12 +180,7 @@ void words_print(void) {
 }
 
 void words_print_kinds(void) {
-    static const HChar *const names[CODES] = {
-        [RECORDED_CODES] = "recorded", [SKYLAKE_CODES] = "skl"
-    };
-    for (UInt codes = 0; codes < CODES; codes++)
-        for (UInt kind = 0; kind < LINE_KINDS; kind++)
-            for (UInt i = 0; i < MOST_HEADS && kind_heads[codes][kind][i]; i++)
-                VG_(printf)("    kind %u %s %s %s\n", kind, kind_names[kind], names[codes],
-                            kind_heads[codes][kind][i]);
+    for (UInt kind = 0; kind < LINE_KINDS; kind++)
+        VG_(printf)("    kind %u %s %s\n", kind, kind_names[kind],
+                    recorded_codes[kind].count ? recorded_codes[kind].of[0] : "-");
 }

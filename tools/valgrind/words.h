@@ -33,7 +33,7 @@ typedef struct {
     ULong kinds;            /* a bit for each that counts */
     Long mhz, window;       /* window: instructions */
     Int most_amount;        /* of a line */
-    line_codes codes;       /* of the lines */
+    const kind_lines *codes; /* of the lines */
     shape l1d, l1i, l2, l3, dtlb, itlb;
     Int predictor_bits; /* 0: there is none */
     ULong costs[COSTS];
@@ -50,7 +50,8 @@ static inline Bool counts_kind(UInt kind) { return words.kinds >> kind & 1; }
 static inline Bool has_predictor(void) { return words.has_model && words.predictor_bits; }
 void words_print(void);
 
-/* Each kind with its number, its name, the codes, and the head of a line. */
+/* Each kind with its number, its name, and the head of its line by the codes of
+ * examples/recorded.unit, or - if it has none. */
 void words_print_kinds(void);
 
 #endif

@@ -1,0 +1,61 @@
+"""docs/COUNTED.md: what is counted for each event of a real processor, out of the tables of tools/processors."""
+
+from __future__ import annotations
+
+from parts.processors import NOTHING, Quantities, Row, Table, read_quantities, tables
+
+HEAD = """\
+# Events of real processors
+
+What `tools/record` and `tools/count` count for the events of a real processor, by the names of libpfm4. `tools/make_unit PMU --counted` writes a unit that has these events and no others
+([RECORDING](RECORDING.md#codes)). `tools/make_pages` makes this page out of `tools/processors`, where each processor has a table.
+
+## Quantities
+
+Each event is a sum of these. Where an event has one of the sums below, it has each of its quantities.
+"""
+SUMS = "\nAnd these sums have names:\n"
+NEVER = f"`{NOTHING}` never occurs in the model."
+COLUMNS = ("Event", "What is counted", "What the processor counts otherwise")
+
+
+def _table(columns: tuple[str, ...], rows: list[tuple[str, ...]]) -> list[str]:
+    head, *lines = [f"| {' | '.join(row)} |" for row in [columns, *rows]]
+    return [head, "|" + "---|" * len(columns), *lines]
+
+
+def _names(rows: list[Row]) -> str:
+    """The names of rows of one event: the event once."""
+    first, *others = (row.name for row in rows)
+    return ", ".join([f"`{first}`", *(f"`:{name.partition(':')[2]}`" for name in others)])
+
+
+def _gathered(table: Table) -> list[list[Row]]:
+    """The rows of an event that have the same words, one behind the other."""
+    found: dict[tuple[str, str, str], list[Row]] = {}
+    for row in table.rows.values():
+        found.setdefault((row.key()[0], row.words, row.otherwise), []).append(row)
+    return list(found.values())
+
+
+def _section(table: Table) -> list[str]:
+    rows = [(_names(rows), ", ".join(f"`{word}`" for word in rows[0].words.split()), rows[0].otherwise) for rows in _gathered(table)]
+    pmus = ", ".join(f"`{pmu}`" for pmu in table.pmus)
+    return ["", f"## {table.title}", "", f"Of {pmus}.", "", *_table(COLUMNS, rows)]
+
+
+def _quantities(quantities: Quantities) -> list[str]:
+    meanings = [(f"`{name}`", text) for name, text in quantities.meanings.items()]
+    sums = [(f"`{name}`", ", ".join(f"`{part}`" for part in parts)) for name, parts in quantities.sums.items()]
+    return [HEAD, *_table(("Quantity", "One occurrence is"), meanings), SUMS, *_table(("Sum", "Of"), sums), "", NEVER]
+
+
+def counted_page() -> str:
+    own: list[Table] = []
+    for table in tables().values():
+        if table not in own:
+            own.append(table)
+    lines = _quantities(read_quantities())
+    for table in own:
+        lines += _section(table)
+    return "\n".join(lines) + "\n"
