@@ -125,3 +125,15 @@ class Kernels(unittest.TestCase):
         )
         self.assertEqual((done.returncode, done.stderr), (0, ""), done.stdout[-3000:])
         self.assertRegex(done.stdout, r"\A\d{4} passed, 0 failed\n\Z")
+
+
+@needs_command("valgrind", "valgrind")
+@needs_command("cc", "a C compiler")
+@needs_command("nm", "binutils")
+class Cachegrind(unittest.TestCase):
+    def test_two_programs(self) -> None:
+        """A program without a library and one with it, and four functions (checks/cachegrind --quick)."""
+        command = [sys.executable, str(ROOT / "checks/cachegrind"), "--quick"]
+        done = subprocess.run(command, capture_output=True, text=True)
+        self.assertEqual((done.returncode, done.stderr), (0, ""), done.stdout)
+        self.assertTrue(done.stdout.endswith("\n24 passed, 0 failed\n"), done.stdout)
