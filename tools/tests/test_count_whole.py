@@ -207,6 +207,26 @@ class Programs(Whole):
                 (found["total"], found["ended"]), ({"PAPI_TOT_INS": 6}, {"signal": number})
             )
 
+    def test_a_signal_to_this_program_alone_is_passed_on(self) -> None:
+        """Nothing is left in the folder for temporary files."""
+        script = "trap 'echo caught; exit 4' INT; echo runs; while :; do sleep 0.1; done"
+        command = [str(TOOLS / "count"), *INSTRUCTIONS, "sh", "-c", script]
+        temporary = self.folder / "temporary"
+        temporary.mkdir()
+        environment = {**os.environ, "TMPDIR": str(temporary)}
+        for number, status, rest in (
+            (signal.SIGINT, 4, "caught\n"),
+            (signal.SIGTERM, -signal.SIGTERM, ""),
+        ):
+            pipes = {"stdout": subprocess.PIPE, "stderr": subprocess.PIPE, "text": True}
+            with subprocess.Popen(command, env=environment, **pipes) as running:
+                assert running.stdout and running.stderr
+                self.assertEqual(running.stdout.readline(), "runs\n")
+                running.send_signal(number)
+                self.assertEqual((running.stdout.read(), running.wait(100)), (rest, status))
+                self.assertRegex(running.stderr.read(), r"[1-9][\d,]+      PAPI_TOT_INS\n")
+            self.assertEqual(list(temporary.iterdir()), [])
+
     def test_formulas_are_the_programs(self) -> None:
         natives = "recorded::BRANCH:ALL,recorded::INSTRUCTIONS"
         rows = f"CPU,mine\nEVENT,HUNDREDTHS,DERIVED_POSTFIX,N0|100|*|N1|/|,{natives}\n"

@@ -9,6 +9,7 @@
 #include "pub_tool_vki.h"
 #include "pub_tool_xarray.h"
 
+#include "block.h"
 #include "frames.h"
 #include "output.h"
 #include "profile.h"
@@ -19,7 +20,10 @@
 #define PROCESS_WORD "--process="
 #define GATHERED 65536
 
-typedef struct { UInt number; ULong counts[ALL_KINDS]; } thread_totals;
+typedef struct {
+    UInt number, last; /* last: the instructions of the block that ran last */
+    ULong counts[ALL_KINDS];
+} thread_totals;
 
 /* Threads that are no more; and what those of a parent did before this process was forked. */
 static XArray *ended, *before;
@@ -95,10 +99,11 @@ static void put_thread(const thread_totals *t) {
     for (UInt i = 0; i < ALL_KINDS; i++)
         if ((t->counts[i] && kind_names[i] && counts_kind(i)) || i == KL_INSTRUCTIONS)
             put_line("thread %u %s %llu", t->number, kind_names[i], t->counts[i]);
+    if (words.has_further) put_line("thread %u last %u", t->number, t->last);
 }
 
 static thread_totals totals_of(const core *c) {
-    thread_totals t = {.number = c->number};
+    thread_totals t = {.number = c->number, .last = c->at ? c->at->count : 0};
     frames_counts(c, t.counts);
     for (Word i = 0; i < VG_(sizeXA)(before); i++) {
         const thread_totals *b = VG_(indexXA)(before, i);
