@@ -19,7 +19,7 @@ static uint64_t now(void) {
 }
 static void on(int n) { (void)n; }
 static void interrupt(void) {
-    const struct itimerval soon = {{0, 0}, {0, 200000}};
+    const struct itimerval soon = {{0, 200000}, {0, 200000}};
     setitimer(ITIMER_REAL, &soon, NULL);
 }
 int main(int count, char **words) {

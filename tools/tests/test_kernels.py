@@ -73,8 +73,8 @@ class Files(InFolder):
         return read_kernels(Path(self.write("lines.kernels", text)))
 
     def test_what_a_kernel_counts(self) -> None:
-        """Ten turns of a load and a store with the loop's two instructions, one before the loop, and
-        that which sets its number of turns."""
+        """Ten turns of a load and a store with the loop's two instructions, one before the loop,
+        and that which sets its number of turns."""
         (kernel,) = self.read(
             "# a comment\nboth: mov (%rsi),%rax ;\n  mov %rax,(%rdi) = 2 instructions,\n"
             "  1 load, 1 store\n  first nop\n  turns 10\n  whole 3 load misses\n  by lines 1 load\n"
@@ -132,7 +132,7 @@ class Kernels(unittest.TestCase):
 @needs_command("nm", "binutils")
 class Cachegrind(unittest.TestCase):
     def test_two_programs(self) -> None:
-        """A program without a library and one with it, and four functions (checks/cachegrind --quick)."""
+        """One without a library and one with it, and four functions (checks/cachegrind --quick)."""
         command = [sys.executable, str(ROOT / "checks/cachegrind"), "--quick"]
         done = subprocess.run(command, capture_output=True, text=True)
         self.assertEqual((done.returncode, done.stderr), (0, ""), done.stdout)

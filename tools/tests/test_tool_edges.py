@@ -97,7 +97,8 @@ class Streams(InFolder):
 @needs_tool
 class Ends(Recording):
     def test_an_output_that_takes_nothing(self) -> None:
-        for words in (["-o", "/dev/full"], []):
+        outputs: tuple[tuple[str, ...], ...] = (("-o", "/dev/full"), ())
+        for words in outputs:
             with open("/dev/full", "wb") as full:
                 done = subprocess.run(
                     [str(TOOLS / "record"), *words, self.compile("sample")],
@@ -237,9 +238,10 @@ SIDES = ("load", "store", "fetch")
 @needs_tool
 class Sums(Recording):
     def recorded(
-        self, program: str, machine: Machine, stream: str = "stream", **words: bool
+        self, program: str, machine: Machine, stream: str = "stream", has_further: bool = False
     ) -> Recorded:
-        found = record(Wanted(program, [], machine, **words), str(self.folder / stream), "test")
+        wanted = Wanted(program, [], machine, has_further=has_further)
+        found = record(wanted, str(self.folder / stream), "test")
         self.assertEqual((found.status, found.failure), (0, None))
         return found
 
@@ -343,39 +345,38 @@ class Sums(Recording):
 class Time(Recording):
     """Cycles of the model at 1,000 MHz: a millisecond has a million."""
 
-
-def test_time_of_what_waits(self) -> None:
-    """Thirty milliseconds; and of twenty seconds those up to a signal, which comes within the
-    first ten."""
-    program = self.compile(
-        "sleeps", source("sleeps.c"), f"-I{ROOT / 'include'}", f"-I{ROOT / 'c'}", "-w"
-    )
-    calls = {
-        name: (0, 30.0, 31.0)
-        for name in (
-            "nanosleep",
-            "clock_nanosleep",
-            "select",
-            "pselect",
-            "poll",
-            "ppoll",
-            "epoll_wait",
-            "epoll_pwait",
+    def test_time_of_what_waits(self) -> None:
+        """Thirty milliseconds; and of twenty seconds those up to a signal, which comes again and
+        again, within the first ten."""
+        program = self.compile(
+            "sleeps", source("sleeps.c"), f"-I{ROOT / 'include'}", f"-I{ROOT / 'c'}", "-w"
         )
-    }
-    calls |= {
-        "nothing": (0, 0.0, 1.0),
-        "interrupted": (-1, 100.0, 10_000.0),
-        "interrupted_clock": (-1, 100.0, 10_000.0),
-    }
-    for name, (answer, least, most) in calls.items():
-        command = valgrind.command(["--model=yes", "--mhz=1000"], program, [name])
-        done = subprocess.run(
-            command,
-            env=valgrind.environment([program, name], {}),
-            capture_output=True,
-            text=True,
-        )
-        answered, cycles = map(int, done.stdout.split())
-        self.assertEqual(answered, answer, name)
-        self.assertTrue(least <= cycles / 1_000_000 <= most, (name, cycles))
+        calls = {
+            name: (0, 30.0, 31.0)
+            for name in (
+                "nanosleep",
+                "clock_nanosleep",
+                "select",
+                "pselect",
+                "poll",
+                "ppoll",
+                "epoll_wait",
+                "epoll_pwait",
+            )
+        }
+        calls |= {
+            "nothing": (0, 0.0, 1.0),
+            "interrupted": (-1, 0.0, 10_000.0),
+            "interrupted_clock": (-1, 0.0, 10_000.0),
+        }
+        for name, (answer, least, most) in calls.items():
+            command = valgrind.command(["--model=yes", "--mhz=1000"], program, [name])
+            done = subprocess.run(
+                command,
+                env=valgrind.environment([program, name], {}),
+                capture_output=True,
+                text=True,
+            )
+            answered, cycles = map(int, done.stdout.split())
+            self.assertEqual(answered, answer, name)
+            self.assertTrue(least <= cycles / 1_000_000 <= most, (name, cycles))
