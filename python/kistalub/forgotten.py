@@ -57,7 +57,6 @@ def _forget(waiting: Waiting, number: ctypes.c_int, library: int) -> None:
     if number.value == NULL_SET or library != begun():
         return
     waiting.append((number, library))
-    if waiting is _own.waiting:
-        free_forgotten()
+    free_forgotten()
     advice = "with EventSet(..) as events: closes it"
     warnings.warn(f"kistalub: an EventSet was not closed: {advice}", ResourceWarning, stacklevel=2)

@@ -6,6 +6,7 @@ import importlib.util
 import pickle
 import threading
 import unittest
+import weakref
 from array import array
 
 from shared_library import EXAMPLES, UNIT, OverLibrary
@@ -112,8 +113,10 @@ class Names(OverLibrary):
         with Library(UNIT, stream=LARGE), EventSet("CYCLES", "INST_RETIRED") as events:
             for name in list(events):
                 events.on_overflow(name, 256, lambda name, address: told.append(name))
+            gone = weakref.ref(events._handlers["CYCLES"])
             events.remove("CYCLES")
             events.add("CYCLES")
+            self.assertIsNone(gone())
             self.assertEqual(list(events), ["INST_RETIRED", "CYCLES"])
             with events.counting() as counts:
                 kistalub.go()
@@ -141,7 +144,7 @@ class Arrays(OverLibrary):
             self.assertEqual(list(values), [2, 7, 9])
             events.read_into(memoryview(values)[1:])
             self.assertEqual(list(values), [2, 2, 7])
-            for odd in (array("i", [0] * 4), array("d", [0.0] * 2), bytes(16), memoryview(values)[::2]):
+            for odd in (array("i", [0] * 4), array("d", [0.0] * 2), bytes(16), memoryview(values).toreadonly(), memoryview(values)[::2]):
                 with self.assertRaisesRegex(TypeError, "64-bit integers that stand side by side"):
                     events.read_into(odd)
             with self.assertRaisesRegex(ValueError, "there is room for 1 counts, and the set has 2"):

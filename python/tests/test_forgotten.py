@@ -11,6 +11,7 @@ from shared_library import EXAMPLES, UNIT, OverLibrary
 
 import kistalub
 from kistalub import EventSet, Library
+from kistalub.binding import call
 
 FIRST = EXAMPLES / "c/first.stream"
 LARGE = EXAMPLES / "c/overflow.stream"
@@ -38,6 +39,12 @@ class Forgotten(OverLibrary):
             with EventSet("INST_RETIRED") as events, events.counting() as counts:
                 kistalub.go()
             self.assertEqual(counts, {"INST_RETIRED": 2})
+
+    def test_one_is_freed_at_once(self) -> None:
+        with Library(UNIT, stream=FIRST):
+            number = self.begin().number
+            with self.assertRaises(kistalub.ENOEVST):
+                call("PAPI_num_events", number)
 
     def test_one_that_holds_itself_is_freed_with_the_garbage(self) -> None:
         with Library(UNIT, stream=LARGE):
@@ -111,10 +118,16 @@ class Forgotten(OverLibrary):
 
     def test_one_of_an_ended_library_leaves_those_of_the_next_one(self) -> None:
         told: list[str] = []
+        catching = warnings.catch_warnings(record=True)
+        caught = catching.__enter__() or []
+        self.addCleanup(catching.__exit__, None, None, None)
+        warnings.simplefilter("always")
         with Library(UNIT, stream=LARGE):
             closed, forgotten = EventSet("INST_RETIRED"), EventSet("CYCLES")
             numbers = closed.number, forgotten.number
-        with Library(UNIT, stream=LARGE), EventSet("INST_RETIRED") as one, EventSet("CYCLES") as other:
+        with Library(UNIT, stream=LARGE), EventSet("INST_RETIRED") as one, EventSet(
+            "CYCLES"
+        ) as other:
             self.assertEqual((one.number, other.number), numbers)
             one.on_overflow("INST_RETIRED", 1000, lambda name, address: told.append(name))
             one.start()
@@ -123,6 +136,7 @@ class Forgotten(OverLibrary):
             gc.collect()
             kistalub.go()
             self.assertEqual((one.stop(), told), ({"INST_RETIRED": 2040}, ["INST_RETIRED"] * 2))
+        self.assertEqual([each for each in caught if each.category is ResourceWarning], [])
 
 
 class GivenOut(OverLibrary):

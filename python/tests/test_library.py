@@ -2,6 +2,7 @@
 
 from __future__ import annotations
 
+import json
 import re
 import shutil
 import subprocess
@@ -119,6 +120,15 @@ class Finding(WithPython):
         for path in ("/no/such.so", str(self.folder)):
             self.assertEqual(self.told(path), f"FileNotFoundError: kistalub: KISTALUB_LIBRARY is {path}, and there is no such file: {REMEDY}")
 
+    def test_one_beside_the_module(self) -> None:
+        """A wheel may have the library with it, and it comes before those of a prefix."""
+        package = self.folder / "kistalub"
+        shutil.copytree(ROOT / "python/kistalub", package)
+        shutil.copy(ROOT / "VERSION", package)
+        (package / "libpapi.so.7.0").write_text("words\n", encoding="ascii")
+        ran = self.run_python("-c", "import kistalub\nkistalub.go()", KISTALUB_LIBRARY="", PYTHONPATH=str(self.folder))
+        self.assertIn(f"OSError: kistalub: {package}/libpapi.so.7.0 is no shared library that can be loaded here", ran.stderr)
+
     def test_a_file_that_is_no_library(self) -> None:
         path = self.folder / "text.so"
         path.write_text("words\n", encoding="ascii")
@@ -166,6 +176,33 @@ class Beginning(OverLibrary):
     def test_a_missing_file_says_where_to_look(self) -> None:
         ran = self.run_python("-c", f"import kistalub\nwith kistalub.Library({str(self.folder / 'none.unit')!r}): pass")
         self.assertTrue(ran.stderr.endswith(" (a line on standard error says which file, and why)\n"), ran.stderr)
+
+
+class Regions(OverLibrary):
+    TEXT = """
+import kistalub
+with kistalub.region("outer"):
+    try:
+        with kistalub.region("inner"):
+            raise KeyError
+    except KeyError:
+        pass
+try:
+    with kistalub.region("\\0"):
+        pass
+except ValueError as error:
+    print(error)
+"""
+
+    def test_what_they_count_is_written_when_the_process_ends(self) -> None:
+        """Before each reading five occurrences happen: there is one where a region ends, and in the outer one there are three."""
+        stream = self.stream(*["0 c0 00 u 1 1"] * 100)
+        variables = {"KISTALUB_UNIT": str(UNIT), "KISTALUB_STREAM": str(stream), "KISTALUB_STEP": "5", "PAPI_EVENTS": "INST_RETIRED", "PAPI_OUTPUT_DIRECTORY": str(self.folder)}
+        ran = self.run_python("-c", self.TEXT, **variables)
+        self.assertEqual((ran.stdout, ran.stderr), ("a text with a NUL: '\\x00'\n", ""))
+        told = json.loads((self.folder / "papi_hl_output/rank_000000.json").read_text())
+        regions = told["threads"]["0"]["regions"].values()
+        self.assertEqual([(each["name"], each["parent_region_id"], each["INST_RETIRED"]) for each in regions], [("outer", "-1", "15"), ("inner", "0", "5")])
 
 
 class Examples(OverLibrary):
