@@ -17,13 +17,14 @@ from here import ROOT
 
 from parts.command import BY_SIGNAL, ENDING_SIGNALS
 from parts.crate_graph import read_crates
-from proof_costs import EDITS, PROOF, TESTS, Job, Watch, keep_costs
+from proof_costs import EDITS, PROOF, TESTS, Job, Watch, keep_costs, kept_table
 
 EVERY = 60.0  # seconds, between two lines that say how far it is
 LOOK = 1.0
 PIECE = 1 << 16
 COUNT = re.compile(r"^(\d+) passed, (\d+) failed", re.MULTILINE)
 DONE = re.compile(r"^rt: (\w+)(?:(: its tests are proved)| proved| is kept:)", re.MULTILINE)
+GATES = "gates.csv"  # when it ended, part, seconds, of a processor, passed, failed
 TAIL = 4096  # bytes of the output in which the count stands
 
 
@@ -159,6 +160,16 @@ def keep(folder: Path, part: Part) -> None:
     (folder / f"{number}.json").write_text(json.dumps(asdict(part)), encoding="utf-8")
 
 
+def keep_gate(parts: list[Part]) -> None:
+    """Adds a line for each part to the table of this machine's gates."""
+    table, now = kept_table().with_name(GATES), time.strftime("%Y-%m-%dT%H:%M:%SZ", time.gmtime())
+    table.parent.mkdir(parents=True, exist_ok=True)
+    with table.open("a", encoding="utf-8") as lines:
+        for part in parts:
+            took = f"{part.seconds:.0f},{part.processor:.0f}"
+            lines.write(f"{now},{part.name},{took},{part.passed},{part.failed}\n")
+
+
 def end(folder: Path) -> int:
     """Says how long each part took, and what all have counted."""
     parts = [
@@ -173,6 +184,7 @@ def end(folder: Path) -> int:
     wall = sum(part.seconds for part in parts)
     total = f"{minutes(wall)} in all ({minutes(processor)} of processor)"
     failed = sum(part.failed for part in parts)
+    keep_gate(parts)
     print(f"gate: {', '.join([*told, total])}")
     print(f"{sum(part.passed for part in parts)} passed, {failed} failed", flush=True)
     return 1 if failed or not parts else 0
