@@ -74,8 +74,16 @@ class Counting(OverLibrary, Running):
             done = self.count(BLOCK.format(""), weights=weights)
             self.assertEqual(done.returncode, status, done.stdout)
         done = self.count(BLOCK.format(""), weights=(23, 20, 20, 20, 20))
+        self.assertIn(f"test_it.py::test_one costs more than in {self.folder}/counts.json, which is of Python 3.", done.stdout)
         self.assertIn("PAPI_TOT_INS: 100 before, 103 now: +3, +3.00 %, over 2%", done.stdout)
         self.assertEqual(self.baseline(), {"test_it.py::test_one": {"PAPI_TOT_INS": 100}})
+
+    def test_a_baseline_of_other_events_is_none(self) -> None:
+        self.count(BLOCK.format(""), "--update-counts")
+        for events in ("'PAPI_TOT_INS', 'PAPI_TOT_CYC'", "'PAPI_TOT_CYC'"):
+            done = self.count(BLOCK.format("").replace("'PAPI_TOT_INS'", events))
+            self.assertEqual(done.returncode, 1)
+            self.assertIn("has counts of other events for test_it.py::test_one: --update-counts writes them", done.stdout)
 
     def test_limits(self) -> None:
         self.count(BLOCK.format(""), "--update-counts", weights=(20,))
