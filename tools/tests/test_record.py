@@ -57,7 +57,8 @@ class UnderValgrind(InFolder):
 
     def test_libraries_that_the_environment_names_stay(self) -> None:
         counting = Counting("a", [], next(iter(MACHINES.values())), str(self.folder), None, None, None, None, 1)
-        for before, wanted in ((None, f"{self.folder}"), ("/x:/y", f"{self.folder}:/x:/y")):
+        folder = str(self.folder).ljust(1024, "/")  # of one length wherever it is
+        for before, wanted in ((None, folder), ("/x:/y", f"{folder}:/x:/y")):
             with mock.patch.dict(os.environ, {"LD_LIBRARY_PATH": before or ""}):
                 if before is None:
                     del os.environ["LD_LIBRARY_PATH"]
@@ -94,7 +95,7 @@ class Words(unittest.TestCase):
     def test_the_machine_is_told_to_the_tool_and_to_the_library(self) -> None:
         machine = MACHINES["skl"].with_shapes({"l2": None})
         shapes = ["--l1d=512,8,64", "--l1i=512,8,64", "--l2=none", "--l3=131072,16,64", "--dtlb=64,4,4096", "--itlb=128,8,4096"]
-        self.assertEqual(machine.tool_words(), ["--model=yes", "--predictor=14", "--costs=8,38,200,20,16", *shapes])
+        self.assertEqual(machine.tool_words(), ["--model=yes", "--predictor=14", "--costs=8,38,200,20,16", "--rep=turns", *shapes])
         self.assertEqual(machine.caches(), "l1d=32768,8,64 l1i=32768,8,64 l3=8388608,16,64 dtlb=64,4,4096 itlb=128,8,4096")
 
     def test_bad_words(self) -> None:
