@@ -244,10 +244,10 @@ class Programs(Whole):
         ]
         self.assertEqual(found, {"HUNDREDTHS": 100 * 100 // 204, "LESS": 104, "INSTRUCTIONS": 204})
 
-    def test_a_unit_of_skylake(self) -> None:
+    def test_a_unit_of_ones_own(self) -> None:
         """More events than the unit has counters."""
         rows = (
-            "COMPONENT,cpu,skl\nCOUNTER,P0,48,P\nEVENT,INST_RETIRED,c0,P0,Instructions\n"
+            "COMPONENT,cpu,mine\nCOUNTER,P0,48,P\nEVENT,INST_RETIRED,c0,P0,Instructions\n"
             "UMASK,ANY_P,00,d,All\n"
             "EVENT,BR_INST_RETIRED,c4,P0,Branches\nUMASK,NEAR_TAKEN,20,dn,Taken\n"
             "UMASK,CONDITIONAL,01,n,Conditional\nEVENT,MEM_INST_RETIRED,d0,P0,Memory\n"
