@@ -32,7 +32,7 @@ class Gates(InFolder):
         and after them is the same. The same program twice counts the same to the digit."""
         for rounds, status in ((100, 0), (102, 0), (103, 1)):
             done = self.gate(language, rounds)
-            self.assertEqual((done.returncode, done.stderr), (status, ""), done.stdout)
+            self.assertEqual(done.returncode, status, done.stdout + done.stderr)
             rows = [line.split() for line in done.stdout.splitlines()[1 : 1 + len(EVENTS)]]
             self.assertEqual((rows[0].pop(0), [row[0] for row in rows]), ("smooth", EVENTS))
             if rounds == 100:

@@ -162,7 +162,7 @@ class Install(InFolder):
         done = self.install("--uninstall", self.prefix)
         self.assertEqual((done.returncode, done.stdout, done.stderr), (0, "", ""))
         names = sorted(path.name for path in (self.prefix / "bin").iterdir())
-        self.assertEqual(names, sorted(["kept", *(f"{tool}-x" for tool in TOOLS), "papi_count-x", "papi_record-x"]))
+        self.assertEqual(names, sorted(["kept", *(f"{tool}-x" for tool in TOOLS), "papi_compare-x", "papi_count-x", "papi_record-x"]))
         self.assertTrue((self.prefix / "libexec/kistalub/papi").exists())
         self.assertEqual(self.install("--uninstall", "--program-suffix=-x", self.prefix).returncode, 0)
         self.assertEqual(list(self.prefix.rglob("*")), [kept.parent, kept])
