@@ -43,12 +43,10 @@ class Baseline:
             content["counts"][name] = counts
             content["counts"] = dict(sorted(content["counts"].items()))
             text = json.dumps(content, indent=2) + "\n"
-            with tempfile.NamedTemporaryFile(
-                "w", dir=self.path.parent, prefix=self.path.name, delete=False, encoding="ascii"
-            ) as file:
-                file.write(text)
-            os.chmod(file.name, 0o644)
-            os.replace(file.name, self.path)
+            with tempfile.TemporaryDirectory(dir=self.path.parent, prefix=".counts-") as folder:
+                whole = Path(folder) / self.path.name
+                whole.write_text(text, encoding="ascii")
+                os.replace(whole, self.path)
 
     @contextmanager
     def _alone(self) -> Iterator[None]:

@@ -36,6 +36,30 @@ class Running(WithPython):
         return subprocess.run(command, cwd=self.folder, env=environment, capture_output=True, text=True, timeout=120)
 
 
+class Files(WithPython):
+    """A baseline, without pytest."""
+
+    PUT = "import sys; from pathlib import Path; from kistalub.baseline import Baseline\n" \
+        "for each in sys.argv[2:]: Baseline(Path(sys.argv[1])).put(each, {'A': 1})\n"
+
+    def test_processes_side_by_side_lose_nothing(self) -> None:
+        path, names = str(self.folder / "counts.json"), [f"{number:02}" for number in range(40)]
+        environment = {**os.environ, "PYTHONPATH": str(ROOT / "python")}
+        started = [subprocess.Popen([sys.executable, "-B", "-c", self.PUT, path, *names[first::8]], env=environment) for first in range(8)]
+        self.assertEqual([each.wait() for each in started], [0] * 8)
+        self.assertEqual(list(json.loads(Path(path).read_text())["counts"]), names)
+        self.assertEqual(os.listdir(self.folder), ["counts.json"])
+
+    def test_a_file_that_can_not_be_written_leaves_the_old_one_alone(self) -> None:
+        path = self.folder / "counts.json"
+        self.run_python("-c", self.PUT, str(path), "a")
+        before = path.read_text()
+        limited = f"import resource; resource.setrlimit(resource.RLIMIT_FSIZE, (20, 20))\n{self.PUT}"
+        ran = self.run_python("-c", limited, str(path), "b")
+        self.assertNotEqual(ran.returncode, 0)
+        self.assertEqual((path.read_text(), os.listdir(self.folder)), (before, ["counts.json"]))
+
+
 class Nothing(Running):
     def test_without_a_library_a_test_is_skipped_with_the_reason(self) -> None:
         done = self.pytest(BLOCK.format(""), KISTALUB_LIBRARY="/no/such.so")
