@@ -223,8 +223,13 @@ class Programs(Whole):
                 assert running.stdout and running.stderr
                 self.assertEqual(running.stdout.readline(), "runs\n")
                 running.send_signal(number)
-                self.assertEqual((running.stdout.read(), running.wait(100)), (rest, status))
-                self.assertRegex(running.stderr.read(), r"[1-9][\d,]+      PAPI_TOT_INS\n")
+                try:
+                    said, told = running.communicate(timeout=100)
+                except subprocess.TimeoutExpired:
+                    running.kill()
+                    raise
+                self.assertEqual((said, running.returncode), (rest, status))
+                self.assertRegex(told, r"[1-9][\d,]+      PAPI_TOT_INS\n")
             self.assertEqual(list(temporary.iterdir()), [])
 
     def test_formulas_are_the_programs(self) -> None:
