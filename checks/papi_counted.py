@@ -32,8 +32,9 @@ PLAUSIBLE: dict[str, list[tuple[str, int, int]]] = {
     "papi_clockres": [(r"^PAPI_get_real_cyc: min (\d+)", 1, 100), (r"^PAPI_get_virt_cyc: min (\d+)", 1, 100)],
     "papi_multiplex_cost": [(r"^ +\d+\t +(\d+)\t", 1, 10_000)],
 }
-# What is said of a program that makes no call of PAPI.
-CALL_LESS = {"papi_version": " Counts of "}
+# What is said of a program that makes no call of PAPI: it is counted as a whole.
+TABLE = " Counts of "
+CALL_LESS = {"papi_version": TABLE}
 
 
 def why_of(name: str, ran: Ran, text: str) -> str:
@@ -41,7 +42,7 @@ def why_of(name: str, ran: Ran, text: str) -> str:
     if ran.status != 0:
         return f"{ran.how}: {(ran.err or ran.out).strip()[-200:]}"
     wanted = CALL_LESS.get(name, "")
-    if wanted not in ran.err or (not wanted and "count: " in ran.err):
+    if wanted not in ran.err or (not wanted and ("count: " in ran.err or TABLE in ran.err)):
         return f"says {ran.err.strip()[-200:]!r}"
     for pattern, least, most in PLAUSIBLE.get(name, []):
         found = [int(number) for number in re.findall(pattern, text, re.MULTILINE)]

@@ -20,6 +20,7 @@ NOTHING = "nothing"
 SCRIPTS = {
     "examples/check": ("/bin/false",),
     "examples/c/check": (NOTHING,),
+    "examples/ci/gate": ("c",),
     "examples/count/run": (),
     "examples/ranks/group": ("0", "0", "false", NOTHING),
     "examples/ranks/many": (),

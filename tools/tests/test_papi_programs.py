@@ -121,7 +121,7 @@ class Counts(unittest.TestCase):
         self.assertNotEqual(self.why("papi_clockres", line.format(0)), "")
 
     def test_what_is_said(self) -> None:
-        said = "count: papi_version made no call of PAPI by the library of bin/install: nothing was counted\n"
+        said = "\n Counts of papi_version:\n\n      1,234      PAPI_TOT_INS\n"
         self.assertEqual(self.why("papi_version", "PAPI Version: 7.0.0.0\n", said), "")
         self.assertNotEqual(self.why("papi_version", "PAPI Version: 7.0.0.0\n"), "")
         self.assertNotEqual(self.why("papi_avail", "", said), "")
