@@ -8,6 +8,7 @@ from contextlib import contextmanager, suppress
 from pathlib import Path
 from typing import Callable, ContextManager, Iterator
 
+from parts.command import Fault
 from parts.unproved.children import removed_folder
 
 MOST_KEPT = 4  # folders of a kind
@@ -36,7 +37,10 @@ def put(folder: Path, kind: str, make: Make) -> None:
     with removed_folder(folder.parent / begins) as work:
         kept = work / "kept"
         kept.mkdir()
-        make(work, kept)
+        try:
+            make(work, kept)
+        except OSError as error:  # what is written has no name of its own
+            raise Fault(f"{error.filename or folder.parent}: {error.strerror}") from None
         shutil.rmtree(folder, ignore_errors=True)
         kept.rename(folder)
 
