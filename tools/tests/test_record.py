@@ -238,7 +238,7 @@ class RealProgram(InFolder):
 
     def count(self, unit: str, events: list[str], presets: list[str]) -> tuple[list[str], str]:
         """What record tells of the sample, and what the program counts of these events."""
-        done = run_tool("record", "--l1d", "256,2,64", "-o", self.stream, self.program)
+        done = run_tool("record", "--unit", unit, "--l1d", "256,2,64", "-o", self.stream, self.program)
         told = [number.replace(",", "") for number in re.findall(r"([\d,]+) [ilsm]", done.stderr)]
         calls = ["create"] + [f"add 0 {event}" for event in events] + ["start 0", "run 100000", "stop 0"]
         script = self.write("script", "".join(f"0 {call}\n" for call in calls))
