@@ -1,12 +1,11 @@
 //! Each tool by itself, once with ample memory.
-use super::lab::{files_of, words_in};
-use overflow_dispatch::{Handler, Recorder};
+use super::lab::{files_of, recorders, words_in};
 use papi_base::MemSink;
 use papi_tools::{
     Status, avail, decode, encode_tool, event_chooser, native_avail, run_tool, soak, status_number,
 };
 use std::alloc::{AllocError, Global};
-use std::marker::{Send, Sync};
+use std::marker::Sync;
 use std::test::Fail;
 use std::thread::Threads;
 
@@ -37,10 +36,7 @@ fn called<R: Threads + Sync>(
         "0 3c 00 u 7 1\n",
     )?;
     let files = &mut files;
-    let mut handlers: Vec<Box<dyn Handler + Send>> = Vec::new(alloc);
-    for _thread in 0..64usize {
-        handlers.push(Box::new(alloc, Recorder::new(alloc))?)?;
-    }
+    let mut handlers = recorders(alloc)?;
     Ok(match tool {
         Tool::Run => run_tool(rt, alloc, words, files, out, err, &mut handlers),
         Tool::Avail => avail(rt, alloc, words, files, out, err),

@@ -1,5 +1,5 @@
 //! A unit, files in memory over it, and calls with handlers that nobody reads.
-ghost use Rattle.std.specs.Prelude.{◌≡◌, vec_len};
+ghost use Rattle.std.specs.Prelude.{◌≡◌, IfOk, vec_len};
 
 use overflow_dispatch::{Handler, Recorder};
 use papi_base::{Ending, Files, MemFiles, Sink, THREADS};
@@ -50,6 +50,17 @@ pub(super) fn files_of(alloc: Global, script: &str, stream: &str) -> Result<MemF
     Ok(MemFiles::new(alloc, tapes, 4096, Vec::new(alloc)))
 }
 
+/// A recorder for each thread.
+pub(super) fn recorders(alloc: Global) -> Result<Vec<Box<dyn Handler + Send>>, AllocError>
+    ensures { IfOk result (λ handlers. vec_len handlers ≡ THREADS) }
+{
+    let mut handlers: Vec<Box<dyn Handler + Send>> = Vec::new(alloc);
+    for _thread in 0..THREADS as usize {
+        handlers.push(Box::new(alloc, Recorder::new(alloc))?)?;
+    }
+    Ok(handlers)
+}
+
 /// How the words of a line end with these handlers.
 pub(super) fn ended_with<R: Threads + Sync, F: Files, K: Sink>(
     rt: &R,
@@ -76,9 +87,6 @@ pub(super) fn ended<R: Threads + Sync, F: Files, K: Sink>(
     out: &mut K,
     err: &mut K,
 ) -> Result<u8, AllocError> {
-    let mut handlers: Vec<Box<dyn Handler + Send>> = Vec::new(alloc);
-    for _thread in 0..THREADS as usize {
-        handlers.push(Box::new(alloc, Recorder::new(alloc))?)?;
-    }
+    let mut handlers = recorders(alloc)?;
     ended_with(rt, alloc, line, files, out, err, &mut handlers)
 }

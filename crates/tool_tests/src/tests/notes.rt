@@ -1,7 +1,7 @@
 //! The handlers have all notes of a soak and of a run, though standard output takes ninety bytes.
-use super::lab::{ended_with, files_of};
-use overflow_dispatch::{Handler, Recorder};
-use papi_base::{MemSink, THREADS};
+use super::lab::{ended_with, files_of, recorders};
+use overflow_dispatch::Handler;
+use papi_base::MemSink;
 use std::alloc::{AllocError, Global};
 use std::marker::Send;
 use std::test::Fail;
@@ -47,10 +47,7 @@ fn handlers_have_their_notes_where_standard_output_is_full(rt: HostRuntime) -> R
     let alloc = rt.alloc();
     for case in CASES.lines() {
         let (line, notes) = case.split_once(" -> ").expect(&rt, "words");
-        let mut handlers: Vec<Box<dyn Handler + Send>> = Vec::new(alloc);
-        for _thread in 0..THREADS as usize {
-            handlers.push(Box::new(alloc, Recorder::new(alloc))?)?;
-        }
+        let mut handlers = recorders(alloc)?;
         let mut files = files_of(alloc, SCRIPT, STREAM)?;
         let mut out = MemSink::new(alloc, 90);
         let mut err = MemSink::new(alloc, 100);
