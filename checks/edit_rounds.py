@@ -6,7 +6,7 @@ import re
 import subprocess
 from dataclasses import dataclass, field
 from pathlib import Path
-from typing import Any, Iterable, Iterator, Optional
+from typing import Any, Iterable, Iterator, Optional, Sequence
 
 from edit_kit import rt
 from edit_source import Function
@@ -14,9 +14,10 @@ from edit_source import Function
 MOST_TOGETHER = 20  # edits of a check, so that the processors have about the same work
 NAME = re.compile(r"[A-Za-z0-9_-][A-Za-z0-9_.-]*\.edit")
 PLACE = re.compile(r"(?:note: )?(?:\./)?((?:src|specs|proofs)/\S+?):(\d+):\d+: ")
-ASKED = re.compile(r"only=\d+ proved=\d+")
+ASKED = re.compile(r"only=\d+ (proved|holes)=\d+")
 NOT_PROVED = "logic=not-proved"
 REFUSALS = ("not proved", "no proof")
+OWN_PROOFS = ("Answers.antt", "Invariants.antt")
 OPEN = "did not prove"  # a goal of the function itself
 DEPENDS = re.compile(r"was rejected|(was|were) not checked|was not admitted")
 
@@ -46,15 +47,41 @@ class Edit:
         return made
 
 
+@dataclass(frozen=True)
+class StandIn:
+    """A proof with one hole, which is taken for any function's own."""
+
+    crate: str
+    function: str
+
+    def put(self, room: Path) -> None:
+        """Puts it in the place of the function's own in a copy of the crate."""
+        parts = self.function[len(self.crate) + 2 :].split("::")
+        folder = Path(room, "proofs", *parts)
+        folder.mkdir(parents=True, exist_ok=True)
+        for own in OWN_PROOFS:
+            (folder / own).unlink(missing_ok=True)
+        name = f"{parts[-1]}_spec"
+        (folder / "Proof.antt").write_text(
+            f"use Rattle.{self.crate}.proofs.{'.'.join(parts)}.Statement.{{statement}}\n\n"
+            f"pub {name} : {{M : Type 1}} → statement M\n{name} = ?\n",
+            encoding="utf-8",
+        )
+
+
 @dataclass
 class Round:
-    """Edits that one check tries together, each on a function of its own, or one edit alone."""
+    """Edits that one check tries together, each on a function of its own, or one edit alone.
+
+    What it says of an edited function does not rest on how other functions are proved, so the
+    check takes those of `others` at their word: a proof with a hole stands in for their own."""
 
     crate: Any
     edits: list[Edit]
     texts: dict[str, str]
     is_whole: bool = False
     used: set[str] = field(default_factory=set)
+    others: Sequence[Function] = ()
 
     def functions(self) -> list[str]:
         """The functions that the check is asked for."""
@@ -62,7 +89,16 @@ class Round:
         return [] if self.is_whole else sorted(names)
 
     def flags(self) -> list[str]:
-        return [word for name in self.functions() for word in ("--only", name)]
+        words = ["--allow-holes"] if self.others else []
+        return words + [word for name in self.functions() for word in ("--only", name)]
+
+    def stand_ins(self) -> Iterator[StandIn]:
+        """The proofs that stand in for those of the functions that no edit changes."""
+        edited = self.functions()
+        for other in self.others:
+            within = any(f"{other.name}::".startswith(f"{name}::") for name in edited)
+            if not (within or other.is_const or other.cycle):
+                yield StandIn(self.crate.name, other.name)
 
     def takes(self, edit: Edit) -> bool:
         """Adds an edit if it can be tried beside the others."""
@@ -116,8 +152,12 @@ def _owner(functions: list[Function], file: str, line: int) -> Optional[Function
     return min(having, key=lambda each: each.last - each.first, default=None)
 
 
-def plan(crate: Any, edits: Iterable[Edit], texts: dict[str, str]) -> list[Round]:
+def plan(
+    crate: Any, edits: Iterable[Edit], texts: dict[str, str], functions: Sequence[Function] = ()
+) -> list[Round]:
     """As few rounds as there can be with one edit a function in each.
+
+    The check takes the other ones of these functions at their word.
 
     An edit of something else than one function, or of a constant one, has a round of its own."""
     lone: list[Round] = []
@@ -126,7 +166,7 @@ def plan(crate: Any, edits: Iterable[Edit], texts: dict[str, str]) -> list[Round
         if edit.goes_alone:
             lone.append(alone(crate, edit, texts))
         elif not any(each.takes(edit) for each in rounds):
-            rounds.append(Round(crate, [], texts))
+            rounds.append(Round(crate, [], texts, others=functions))
             rounds[-1].takes(edit)
     return rounds + lone
 

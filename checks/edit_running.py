@@ -55,6 +55,8 @@ def run(turn: Round) -> Ended:
                 shutil.copytree(f"{crate.folder}/{part}", f"{room}/{part}")
         for path, text in turn.texts.items():
             Path(room, path).write_text(text, encoding="utf-8")
+        for stand_in in turn.stand_ins():
+            stand_in.put(Path(room))
         words = [rattle(), "check", *crate.words(["--jobs", "1", *turn.flags()], keeps=False)]
         with open(f"{room}/said", "w+", encoding="utf-8", errors="replace") as said:
             start = time.monotonic()

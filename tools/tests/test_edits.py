@@ -12,7 +12,7 @@ from pathlib import Path
 from types import SimpleNamespace
 
 from edit_kit import class_of, rt
-from edit_rounds import Edit, Round, judge, plan, read
+from edit_rounds import Edit, Round, alone, judge, plan, read
 from edit_running import checked
 from edit_source import Function, functions_of
 from tests.support import ROOT, InFolder
@@ -244,6 +244,21 @@ class Rounds(Texts):
         self.assertEqual(rounds[0].texts, {"src/lib.rt": "1\ntwo\n3\nfour\nfive\n"})
         self.assertEqual(rounds[0].flags(), ["--only", "tiny::f", "--only", "tiny::g"])
 
+    def test_proofs_of_functions_that_no_edit_changes_are_taken_at_their_word(self) -> None:
+        more = [function("f::fn::any", 2, 2), function("k", 9, 9, cycle="cycle both")]
+        edit, functions = self.edit(("one", "1")), [*FUNCTIONS, *more]
+        [turn] = plan(SimpleNamespace(name="tiny"), [edit], TEXTS, functions)
+        self.assertEqual([each.function for each in turn.stand_ins()], ["tiny::g"])
+        self.assertEqual(turn.flags(), ["--allow-holes", "--only", "tiny::f"])
+        (self.folder / "proofs/g").mkdir(parents=True)
+        own = Path(self.write("proofs/g/Answers.antt", "what g has of its own"))
+        next(turn.stand_ins()).put(self.folder)
+        self.assertFalse(own.exists())
+        stands = (self.folder / "proofs/g/Proof.antt").read_text(encoding="utf-8")
+        self.assertIn("use Rattle.tiny.proofs.g.Statement.{statement}", stands)
+        self.assertTrue(stands.endswith("\ng_spec = ?\n"))
+        self.assertEqual(list(alone(turn.crate, edit, TEXTS).stand_ins()), [])
+
     def test_edits_that_others_may_rest_on_go_alone(self) -> None:
         const, outside = self.edit(("four", "4")), self.edit(("five", "5"))
         both = self.edit(("one", "1"), ("three", "3"))
@@ -284,6 +299,12 @@ class Judged(Texts):
         only = "only=2 proved=0"
         self.assertEqual(self.judged(OWN, REFUSED, BEHIND, only), (["one"], []))
         self.assertEqual(self.judged(OWN, REFUSED, WRONG, BOTH, only), (["one", "three"], []))
+
+    def test_a_hole_in_another_function_changes_nothing(self) -> None:
+        hole = "fn tiny::k: depends on a hole in `Rattle.tiny.proofs.k.Proof.k_spec`"
+        rests = "fn tiny::g: depends on a hole in `Rattle.tiny.proofs.k.Proof.k_spec`"
+        found = self.judged(OWN, REFUSED, hole, rests, "only=3 holes=2")
+        self.assertEqual(found, (["one"], []))
 
     def test_a_closure_is_of_its_function(self) -> None:
         only, other = "only=2 proved=0", CLOSURE.replace("::f:", "::ff:")
