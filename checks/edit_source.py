@@ -11,6 +11,7 @@ from typing import Iterable, Iterator, Optional
 
 OPENS, CLOSES = "([{", ")]}"
 HEADS = ("fn", "impl", "trait", "mod", "macro_rules")
+PATHS = (".", "::", ":")
 NO_NAMES = ("mut", "dyn", "unsafe")
 
 
@@ -25,7 +26,8 @@ class Token:
 class Function:
     """A function by the name that a check prints, its first line, and the lines of its body alone.
 
-    Two of one cycle are proved together. A constant one may be part of what others say."""
+    Two of one cycle are proved together, and one that calls itself is a cycle of its own. A
+    constant one may be part of what others say."""
 
     name: str
     file: str
@@ -54,6 +56,7 @@ class _Head:
     tokens: list[str]
     is_const: bool = False
     cycle: str = ""
+    body: int = 0
 
 
 def tokens_of(rattle: str, folder: Path, files: list[str]) -> dict[str, list[Token]]:
@@ -105,7 +108,7 @@ def _functions(
             head, depth = _begun(token, code[since:at]), 0
         elif token.text == "{" and not depth:
             if head:
-                head.line = token.line
+                head.line, head.body = token.line, at
             stack.append(head)
             head, since = None, at + 1
         elif token.text == "}" and not depth:
@@ -114,12 +117,26 @@ def _functions(
             if ended and ended.word == "fn" and not _is_in_macro(stack):
                 name = _name(top, types, [*stack, ended])
                 lines = ended.begin, ended.line + 1, token.line - 1
-                yield Function(name, file, *lines, ended.is_const, ended.cycle)
+                cycle = ended.cycle or _own_cycle(name, code[ended.body : at])
+                yield Function(name, file, *lines, ended.is_const, cycle)
         elif token.text == ";" and not depth:
             head, since = None, at + 1
         elif head:
             depth += (token.text in OPENS) - (token.text in CLOSES)
             head.tokens.append(token.text)
+
+
+def _own_cycle(name: str, body: list[Token]) -> str:
+    """The cycle of a function that calls itself, in the words of its body."""
+    last, before = name.rpartition("::")[2], ["", ""]
+    for token, after in zip(body, body[1:]):
+        on_another = before[1] in PATHS and before[0].lower() != "self"
+        if token.text == last and after.text == "(" and not on_another:
+            return f"cycle {name}"
+        if token.text not in PATHS:
+            before[0] = token.text
+        before[1] = token.text
+    return ""
 
 
 def _is_in_macro(stack: list[Optional[_Head]]) -> bool:

@@ -99,6 +99,24 @@ class Crate(InFolder):
         return Path(self.write(f"crates/tiny/{folder}/{name}.edit", text))
 
 
+RECURSIONS = """fn down(n: u32) -> u32 {
+    if n == 0 { 0 } else { down(n - 1) }
+}
+impl P {
+    fn of(n: u32) -> u32 {
+        Self::of(n)
+    }
+    fn len(&self) -> usize {
+        self.list.len()
+    }
+    fn new() -> P {
+        Q::new()
+    }
+}
+struct P;
+"""
+
+
 @needs_rt
 class Tried(Crate):
     def tried(self, *words: str) -> subprocess.CompletedProcess[str]:
@@ -220,6 +238,11 @@ class Functions(Crate):
         self.assertEqual((f.name, f.first, f.last, f.is_const), ("tiny::a::f", 5, 6, True))
         self.assertEqual((h.name, h.begin, h.first, h.last), ("tiny::h", 10, 12, 11))
         self.assertEqual((f.together, h.together), ("tiny::a::f", "cycle both"))
+
+
+    def test_one_that_calls_itself_is_a_cycle_of_its_own(self) -> None:
+        found = {each.name[6:]: bool(each.cycle) for each in self.functions(RECURSIONS)}
+        self.assertEqual(found, {"down": True, "P::of": True, "P::len": False, "P::new": False})
 
 
 def function(name: str, first: int, last: int, **more: bool) -> Function:
