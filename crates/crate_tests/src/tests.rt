@@ -1,11 +1,7 @@
-//! One or two modules for each crate that is tested, and what several of them use: drawn numbers, native events and several calls.
+//! One or two modules for each crate that is tested, and several calls on one session.
 mod calls;
-mod draws;
-mod natives;
 mod overflow_dispatch_tests;
 mod papi_base_tests;
-mod plain_tape_tests;
-mod plain_tests;
 mod postfix_rules_tests;
 mod preset_csv_tests;
 mod profil_hist_tests;

@@ -2,15 +2,31 @@
 ghost use Rattle.std.specs.Prelude.{[], ◌∷◌};
 
 use super::calls::make_calls;
-use super::natives::INST;
 use overflow_dispatch::{Handler, Note};
-use papi_base::{CompShape, Ending, EventRef, MemSource, Shape};
+use papi_base::{CompShape, Ending, EventRef, MemSource, Mods, Native, Shape};
 use postfix_rules::PresetBook;
 use session_model::{Body, Call, Reply};
 use std::alloc::AllocError;
 use std::test::Fail;
 use stream_reader::StreamReader;
 use thread_session::Session;
+
+// Retired instructions: select c0 on the first counter.
+const INST: Native = Native {
+    comp: 0,
+    event: 0,
+    select: 0xc0,
+    masks: 0,
+    umask: 0,
+    mods: Mods {
+        user: false,
+        kernel: false,
+        edge: false,
+        invert: false,
+        cmask: 0,
+    },
+    allowed: 1,
+};
 
 // A handler that is refused memory at its second note.
 #[derive(Drop)]

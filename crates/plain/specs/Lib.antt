@@ -1,2 +1,0 @@
-pub mod Tapes
-pub mod Windows
