@@ -14,7 +14,6 @@ PAPI = "BSD-3-clause-PAPI"
 OURS = "BSD-3-clause"
 INSTALLED = "usr/"  # where what is built stands in the package
 NOT_PORTED = {"core", "std_alloc", "std_heap"}  # the kit's own library
-UNLICENSED = {"anyhow"}  # of the kit, and linked into an example alone
 
 
 @dataclass(frozen=True)
@@ -105,7 +104,7 @@ class Copyrights(unittest.TestCase):
         rows = [line.split(":") for line in lines if line and not line.startswith("#")]
         ours = {head.split()[0] for head, _ in some(rows)}
         linked = {name for _, below in rows for name in below.split()}
-        ports = linked - ours - NOT_PORTED - UNLICENSED
+        ports = linked - ours - NOT_PORTED
         comments = " ".join(each.fields.get("Comment", "") for each in self.files)
         said = set(comments.replace(",", " ").replace(".", " ").split())
         self.assertEqual(set(some(ports)) - said, set())

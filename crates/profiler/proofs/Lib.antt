@@ -1,5 +1,0 @@
-pub mod Armed
-pub mod Profiled
-pub mod Ranked
-pub mod Sampled
-pub mod Words

@@ -1,3 +1,0 @@
-pub mod Hottest
-pub mod Passings
-pub mod Profiles
