@@ -9,10 +9,10 @@ from dataclasses import dataclass, field
 ESCAPED = re.compile(rb"\\x([0-9a-f]{2})")
 NO_NAME = "\\"
 
-# A function by its object and its address there, and a line by its function, its file and its
-# number.
+# A function by its object and its address there; and a line by its function, its file, its number,
+# and the function that is inlined there.
 FunctionKey = tuple[str, int]
-LineKey = tuple[FunctionKey, str, int]
+LineKey = tuple[FunctionKey, str, int, str]
 
 
 @dataclass
@@ -85,15 +85,15 @@ class ProfileReader:
             self._take_function(words)
         elif word == b"line":
             line = self._line(words)
-            self.profile.lines.setdefault(line, Counter()).update(_counts(words[3:]))
+            self.profile.lines.setdefault(line, Counter()).update(_counts(words[4:]))
         else:
-            way = (self._line(words), self.keys[words[3]])
+            way = (self._line(words), self.keys[words[4]])
             calls = self.profile.calls.setdefault(way, CodeCalls())
-            calls.count += int(words[4])
-            calls.inclusive.update(_counts(words[5:]))
+            calls.count += int(words[5])
+            calls.inclusive.update(_counts(words[6:]))
 
     def _line(self, words: list[bytes]) -> LineKey:
-        return self.keys[words[0]], text_of(words[2]), int(words[1])
+        return self.keys[words[0]], text_of(words[2]), int(words[1]), text_of(words[3])
 
     def _take_function(self, words: list[bytes]) -> None:
         number, entry, code_object, symbol, file, line, calls, *counts = words

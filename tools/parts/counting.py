@@ -48,7 +48,6 @@ def count(counting: Counting, whole: Whole) -> NoReturn:
     """Runs the program under the tool, and ends as it does: what it prints, its signals and its
     status are its own. What could not be done of what was asked is a line, and the status is not 0
     then."""
-    whole.check()
     program = shutil.which(counting.program)
     if program is None:
         raise Fault(f"{counting.program}: no such program")

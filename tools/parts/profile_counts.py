@@ -1,4 +1,4 @@
-"""A profile by events: each function, each line of source, and each call."""
+"""A profile by events: each function, what is inlined in it, each line of source, and each call."""
 
 from __future__ import annotations
 
@@ -11,7 +11,7 @@ from parts.count_table import NAME_WIDTH, shown
 from parts.event_sums import Sum, added_up
 from parts.whole_counts import Counts
 
-MOST_SHOWN = 30  # functions of a table
+MOST_SHOWN, MOST_INLINED = 30, 10  # functions of a table
 
 
 @dataclass(frozen=True)
@@ -33,6 +33,16 @@ class ProfiledLine:
     function: ProfiledFunction
     file: str
     line: int
+    inlined: str  # the innermost function that is inlined there, or nothing
+    own: Counts
+
+
+@dataclass(frozen=True)
+class ProfiledInlined:
+    """What the code of an inlined function does in the function that has it."""
+
+    name: str
+    function: ProfiledFunction
     own: Counts
 
 
@@ -53,6 +63,7 @@ class ProfileCounts:
     functions: tuple[ProfiledFunction, ...]
     lines: tuple[ProfiledLine, ...]
     calls: tuple[ProfiledCalls, ...]
+    inlined: tuple[ProfiledInlined, ...]
 
 
 def profile_counts(profile: CodeProfile, sums: Sequence[Sum]) -> ProfileCounts:
@@ -62,8 +73,11 @@ def profile_counts(profile: CodeProfile, sums: Sequence[Sum]) -> ProfileCounts:
         return {each.name: added_up(each.weights, kinds) for each in sums}
 
     own: dict[FunctionKey, Counter[str]] = {}
-    for (key, _, _), kinds in profile.lines.items():
+    inlined: dict[tuple[FunctionKey, str], Counter[str]] = {}
+    for (key, _, _, name), kinds in profile.lines.items():
         own.setdefault(key, Counter()).update(kinds)
+        if name:
+            inlined.setdefault((key, name), Counter()).update(kinds)
     found = {
         key: ProfiledFunction(
             key,
@@ -79,11 +93,16 @@ def profile_counts(profile: CodeProfile, sums: Sequence[Sum]) -> ProfileCounts:
     }
     functions = sorted(found.values(), key=lambda each: (-each.own[first], each.name, each.key))
     lines = [
-        ProfiledLine(found[key], file, line, counts(kinds))
-        for (key, file, line), kinds in profile.lines.items()
+        ProfiledLine(found[key], file, line, name, counts(kinds))
+        for (key, file, line, name), kinds in profile.lines.items()
     ]
-    lines.sort(key=lambda each: (-each.own[first], each.file, each.line, each.function.key))
-    return ProfileCounts(tuple(functions), tuple(lines), _calls(profile, found, counts))
+    lines.sort(
+        key=lambda each: (-each.own[first], each.file, each.line, each.function.key, each.inlined)
+    )
+    inner = [ProfiledInlined(name, found[key], counts(of)) for (key, name), of in inlined.items()]
+    inner.sort(key=lambda each: (-each.own[first], each.name, each.function.key))
+    calls = _calls(profile, found, counts)
+    return ProfileCounts(tuple(functions), tuple(lines), calls, tuple(inner))
 
 
 def _calls(
@@ -98,10 +117,11 @@ def _calls(
             file,
             line,
             found[to],
-            profile.calls[(key, file, line), to].count,
-            counts(profile.calls[(key, file, line), to].inclusive),
+            profile.calls[place, to].count,
+            counts(profile.calls[place, to].inclusive),
         )
-        for (key, file, line), to in ways
+        for place, to in ways
+        for key, file, line, _ in (place,)
     )
 
 
@@ -126,10 +146,32 @@ def as_further_json(profile: ProfileCounts) -> dict[str, Any]:
                 "line": each.line,
                 "function": each.function.name,
                 "object": each.function.key[0],
+                "inlined": each.inlined or None,
                 "own": dict(each.own),
             }
             for each in profile.lines
             if each.file
+        ],
+        "inlined": [
+            {
+                "name": each.name,
+                "function": each.function.name,
+                "object": each.function.key[0],
+                "own": dict(each.own),
+            }
+            for each in profile.inlined
+        ],
+        "calls": [
+            {
+                "function": each.caller.name,
+                "object": each.caller.key[0],
+                "file": each.file or None,
+                "line": each.line or None,
+                "to": {"function": each.callee.name, "object": each.callee.key[0]},
+                "calls": each.count,
+                "inclusive": dict(each.inclusive),
+            }
+            for each in profile.calls
         ],
     }
 
@@ -160,4 +202,18 @@ def profile_table(profile: ProfileCounts, total: Counts) -> str:
         )
     if len(profile.functions) > len(listed):
         lines.append(f" and {len(profile.functions) - len(listed):,} more functions")
-    return "".join(f"{line}\n" for line in [*lines, ""])
+    return "".join(f"{line}\n" for line in [*lines, "", *_inlined_lines(profile, events)])
+
+
+def _inlined_lines(profile: ProfileCounts, events: list[str]) -> list[str]:
+    """The inlined functions that do most. Those that have them have the same counts."""
+    if not profile.inlined:
+        return []
+    widths = [max(len(event), 15) for event in events]
+    heads = [event.rjust(width) for event, width in zip(events, widths)]
+    lines = [f" {'  '.join(heads)}  of these in functions that are inlined"]
+    for each in profile.inlined[:MOST_INLINED]:
+        cells = [f"{each.own[event]:,}".rjust(width) for event, width in zip(events, widths)]
+        place = f"{shown(each.name):<{NAME_WIDTH}}  in {shown(each.function.name)}"
+        lines.append(f" {'  '.join(cells)}  {place}")
+    return [*lines, ""]

@@ -54,10 +54,6 @@ class Whole:
     def is_profiled(self) -> bool:
         return self.profile or self.callgrind is not None
 
-    def check(self) -> None:
-        if self.is_profiled() and self.functions:
-            raise Fault("a profile is of the whole program: --function goes without it")
-
     def is_asked(self) -> bool:
         """Whether somebody wants it, whatever the program does."""
         return self != Whole(is_beside=self.is_beside)

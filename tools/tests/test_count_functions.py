@@ -3,16 +3,7 @@
 from __future__ import annotations
 
 from tests.support import needs_command
-from tests.whole import EXIT, LOOP, Whole, needs_papi
-
-
-def functions(*names: str) -> str:
-    """Symbols of functions, of which each ends where the next one begins."""
-    ends = [*names[1:], "."]
-    return "".join(
-        f".type {name}, @function\n.size {name}, {end} - {name}\n"
-        for name, end in zip(names, ends)
-    )
+from tests.whole import EXIT, LOOP, WAYS, Whole, functions, needs_papi
 
 
 @needs_command("valgrind", "valgrind")
@@ -38,16 +29,7 @@ class Functions(Whole):
         call ends
     plain: {ten}
         ret
-    tail: nop
-        jmp plain
-    again: dec %ebx
-        jz 2f
-        call again
-    2:  ret
-    leaves: call inner
-        ret
-    inner: mov %rdx, %rsp
-        jmp *%rax
+    {ways}
     starts: dec %ecx
         jnz starts
         ret
@@ -67,6 +49,7 @@ class Functions(Whole):
 
     def program(self) -> str:
         parts = {"pause": LOOP.format(1000), "ten": LOOP.format(10), "exit": EXIT.format(0)}
+        parts["ways"] = WAYS.format(first="")
         return self.assemble("program", self.TEXT.format(**parts) + functions(*self.CALLS))
 
     def test_calls_by_hand(self) -> None:

@@ -15,9 +15,33 @@ from tests.support import PROGRAM, TOOLS, InFolder
 EXIT = "mov $60, %eax\n mov ${}, %edi\n syscall\n"  # 3 instructions
 LOOP = "mov ${}, %ecx\n 1: dec %ecx\n jnz 1b\n"  # 1 and twice so many
 
+# Functions that are entered and left in different ways: by a jump to another one, within a call of
+# the same one, and by a jump out, as longjmp does. `again` first does what is put there.
+WAYS = """
+    tail: nop
+        jmp plain
+    again: {first}dec %ebx
+        jz 2f
+        call again
+    2:  ret
+    leaves: call inner
+        ret
+    inner: mov %rdx, %rsp
+        jmp *%rax
+"""
+
 needs_papi = unittest.skipUnless(
     PROGRAM.exists() or shutil.which("rt"), "crates/papi/out/papi is not built"
 )
+
+
+def functions(*names: str) -> str:
+    """Symbols of functions, of which each ends where the next one begins."""
+    ends = [*names[1:], "."]
+    return "".join(
+        f".type {name}, @function\n.size {name}, {end} - {name}\n"
+        for name, end in zip(names, ends)
+    )
 
 
 class Whole(InFolder):

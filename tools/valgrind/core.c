@@ -60,6 +60,7 @@ static core *new_core(void) {
     for (UInt i = 0; i < KL_KINDS; i++) c->left[i] = NEVER;
     c->check_at = c->turn_at = NEVER;
     c->top = NO_CALL;
+    c->profiled = !functions_are_named();
     make_machine(c);
     return c;
 }

@@ -35,6 +35,7 @@ typedef struct {
     ULong at_stop[ALL_KINDS], dropped[ALL_KINDS]; /* the counts when the thread stopped, and what happened while it was */
     Long left_at_stop[KL_KINDS];
     tape *tape;
+    ULong profiled; /* 1 if what happens now belongs to the profile, else 0 */
     Addr top; /* the stack pointer of the innermost followed call (frames.h), NO_CALL without one */
     frames *frames;
 } core;

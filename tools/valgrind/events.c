@@ -163,7 +163,7 @@ static void count_up_to(core *c, const block *b, Addr pc) {
         if (b->shares[i].segment == segment && b->shares[i].instruction < number) {
             const share *s = b->shares + i;
             core_takes(c, s->kind, s->amount);
-            profile_adds(b, s->instruction, s->kind, (ULong)(Long)s->amount);
+            profile_adds(c, s->instruction, s->kind, (ULong)(Long)s->amount);
         }
     if (c->tape) tape_sees_fault(c, b, number);
 }

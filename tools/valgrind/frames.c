@@ -32,6 +32,7 @@ struct frames {
 static void set_top(core *c) {
     const frames *f = c->frames;
     c->top = f->used ? f->all[f->used - 1].sp : NO_CALL;
+    c->profiled = f->used || !functions_are_named();
 }
 
 static void make_room(frames *f) {
@@ -128,13 +129,15 @@ static void leave(core *c, Addr sp) {
 
 void frames_leave(Addr sp) { leave(current, sp); }
 
-/* A function that jumps to its own beginning is not called again. */
+/* A function that jumps to its own beginning is not called again. If functions are named, others are
+ * followed in calls of these alone. */
 void frames_enter(function *of, Addr sp) {
     core *c = current;
     if (c->is_nobodys) return;
     leave(c, sp);
     if (c->top == sp && c->frames->all[c->frames->used - 1].of == of) return;
-    if (functions_are_named()) functions_count_call(of);
+    if (functions_are_named() && !of->is_named && c->top == NO_CALL) return;
+    if (of->is_named) functions_count_call(of);
     push(c, of, sp);
 }
 

@@ -104,6 +104,7 @@ static void follow(Addr pc, UInt name) {
     function *f = find(pc);
     if (!f) f = new_function(pc);
     f->name = name;
+    f->is_named = True;
 }
 
 static void look_at_symbol(const DebugInfo *of, Int number) {
@@ -186,11 +187,35 @@ const HChar *source_of(Addr pc, UInt *number) {
     return last;
 }
 
+/* Between what the core says of an address itself and of its source. */
+static const HChar *cut_name(HChar *said) {
+    HChar *name = VG_(strstr)(said, ": "), *end = NULL;
+    if (!name) return NULL;
+    for (HChar *at = name += 2; *at; at++)
+        if (at[0] == ' ' && at[1] == '(') end = at;
+    if (end) *end = 0;
+    return name;
+}
+
+const HChar *inlined_at(Addr pc) {
+    static const HChar *last;
+    DiEpoch now = VG_(current_DiEpoch)();
+    InlIPCursor *cursor = VG_(new_IIPC)(now, pc);
+    if (!cursor) return NULL;
+    HChar *said = VG_(strdup)("functions", VG_(describe_IP)(now, pc, cursor));
+    const HChar *name = cut_name(said);
+    VG_(delete_IIPC)(cursor);
+    if (name && (!last || VG_(strcmp)(last, name))) last = copied(name);
+    VG_(free)(said);
+    return name ? last : NULL;
+}
+
 static function *profiled(Addr entry, Addr pc) {
     const HChar *name;
     function *f = find(entry);
-    if (f) return f;
-    f = new_function(entry);
+    if (f && f->is_profiled) return f;
+    if (!f) f = new_function(entry);
+    f->is_profiled = True;
     const DebugInfo *of = VG_(find_DebugInfo)(VG_(current_DiEpoch)(), pc);
     if (of) f->bias = (Addr)VG_(DebugInfo_get_text_bias)(of);
     if (VG_(get_objname)(VG_(current_DiEpoch)(), pc, &name)) f->object = copied(name);
@@ -254,10 +279,11 @@ void function_forgets(function *f) {
 
 function *function_at(Addr pc) {
     Addr begin;
-    if (words.has_profile) {
-        return begins_symbol(pc, &begin) && begin == pc ? profiled(pc, pc) : NULL;
-    }
-    if (!functions_are_named()) return NULL;
-    look_at_object(pc);
-    return find(pc);
+    if (functions_are_named()) look_at_object(pc);
+    if (words.has_profile && begins_symbol(pc, &begin) && begin == pc) return profiled(pc, pc);
+    function *f = functions_are_named() ? find(pc) : NULL;
+    if (!f || !f->is_named) return NULL;
+    if (!words.has_profile) return f;
+    function *called = function_called(pc);
+    return called ? called : profiled(pc, pc);
 }

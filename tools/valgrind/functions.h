@@ -7,10 +7,12 @@
 
 typedef struct function {
     Addr entry;
+    Bool is_named;
     UInt name; /* the number of the word that names it */
     struct function *next;
 
     /* For a profile: */
+    Bool is_profiled;
     UInt number;
     Addr bias; /* where its object was loaded, as its file counts addresses */
     const HChar *object, *symbol, *file; /* NULL if it has none */
@@ -40,6 +42,10 @@ function *function_called(Addr pc);
 
 /* The file of an instruction's source, NULL if it is not known, and the line. The name is kept. */
 const HChar *source_of(Addr pc, UInt *number);
+
+/* The innermost function that is inlined where an instruction is, by the name that DWARF gives it
+ * (DW_TAG_inlined_subroutine), or NULL. The name is kept. */
+const HChar *inlined_at(Addr pc);
 
 void functions_each(void (*f)(function *of));
 void function_forgets(function *f);

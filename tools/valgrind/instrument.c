@@ -87,8 +87,8 @@ static void instruction_begins(code *c, Addr pc, UInt size) {
     c->loads = 0;
     begins_here(c);
     if (!c->is_counted) return;
-    profile_sees_instruction(c);
     code_enters_function(c);
+    profile_sees_instruction(c);
     code_begins(c);
     code_checks_behind(c, pc);
     c->class = class_of_bytes((const UChar *)pc, size);

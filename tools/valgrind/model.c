@@ -26,7 +26,7 @@ static void put_on_tape(core *c, site *s, UInt what, UInt amount) {
 static void happens(core *c, site *s, UInt what) {
     UInt kind = kinds[s->side][what];
     c->counts[kind]++;
-    profile_adds(c->at, s->instruction, kind, 1);
+    profile_adds(c, s->instruction, kind, 1);
     if (is_machine_armed && --c->left[kind] <= 0) c->leaves = -1;
     if (c->tape) put_on_tape(c, s, what, 1);
 }
@@ -34,7 +34,7 @@ static void happens(core *c, site *s, UInt what) {
 static void stall(core *c, site *s, UInt cost) {
     ULong cycles = words.costs[cost];
     c->counts[KL_STALLS] += cycles;
-    profile_adds(c->at, s->instruction, KL_STALLS, cycles);
+    profile_adds(c, s->instruction, KL_STALLS, cycles);
     if (is_machine_armed) {
         c->left[KL_STALLS] -= (Long)cycles;
         c->left[KL_CYCLES] -= (Long)cycles;

@@ -32,19 +32,21 @@ static Bool is_same(const HChar *one, const HChar *other) {
     return one == other || (one && other && !VG_(strcmp)(one, other));
 }
 
-static line *find_line(function *in, const HChar *file, UInt number) {
-    UInt bucket = mixed((Addr)in, number);
-    for (line *l = lines[bucket]; l; l = l->next)
-        if (l->in == in && l->number == number && is_same(l->file, file)) return l;
-    line *made = VG_(calloc)("profile", 1, sizeof *made);
-    *made = (line){.in = in, .file = file, .number = number, .next = lines[bucket]};
-    return lines[bucket] = made;
+static Bool is_line(const line *one, const line *other) {
+    return one->in == other->in && one->number == other->number &&
+           is_same(one->file, other->file) && is_same(one->inlined, other->inlined);
 }
 
 static line *line_of(Addr pc) {
-    UInt number;
-    const HChar *file = source_of(pc, &number);
-    return find_line(function_of(pc), file, number);
+    line wanted = {.in = function_of(pc), .inlined = inlined_at(pc)};
+    wanted.file = source_of(pc, &wanted.number);
+    UInt bucket = mixed((Addr)wanted.in, wanted.number);
+    for (line *l = lines[bucket]; l; l = l->next)
+        if (is_line(l, &wanted)) return l;
+    line *made = VG_(malloc)("profile", sizeof *made);
+    wanted.next = lines[bucket];
+    *made = wanted;
+    return lines[bucket] = made;
 }
 
 /* -- blocks -- */
@@ -74,36 +76,45 @@ static void add(code *c, IRExpr *at, IRExpr *amount) {
     addStmtToIRSB(c->out, IRStmt_Store(Iend_LE, at, now));
 }
 
+/* 1, or if functions are named 0 outside of their calls. */
+static IRExpr *profiled(code *c) {
+    return functions_are_named() ? code_load_at(c, OFFSET(profiled)) : code_word(1);
+}
+
 void code_profiles_segment(code *c) {
     if (!words.has_profile || !c->is_counted) return;
-    add(c, code_word((Addr)new_counter(c, OF_SEGMENT, c->segment, 0)->times), code_word(1));
+    add(c, code_word((Addr)new_counter(c, OF_SEGMENT, c->segment, 0)->times), profiled(c));
 }
 
 void code_profiles_guard(code *c, UInt kind, IRExpr *times) {
     if (!words.has_profile) return;
+    if (functions_are_named()) times = code_two(c, Iop_And64, times, profiled(c));
     add(c, code_word((Addr)new_counter(c, OF_KIND, c->number, kind)->times), times);
 }
 
 void code_profiles_outcome(code *c, IRExpr *offset) {
     if (!words.has_profile) return;
     Addr times = (Addr)new_counter(c, OF_OUTCOMES, c->number, 0)->times;
-    add(c, code_two(c, Iop_Add64, code_word(times), offset), code_word(1));
+    add(c, code_two(c, Iop_Add64, code_word(times), offset), profiled(c));
 }
 
 void profile_sees_instruction(code *c) {
     if (words.has_profile) knows_line(c);
 }
 
-void profile_adds(const block *b, UInt number, UInt kind, ULong amount) {
-    if (!words.has_profile || !b || !b->lines || !b->lines[number]) return;
-    b->lines[number]->own[kind] += amount;
+static void add_to_line(const block *b, UInt number, UInt kind, ULong amount) {
+    if (b->lines && b->lines[number]) b->lines[number]->own[kind] += amount;
+}
+
+void profile_adds(const core *c, UInt number, UInt kind, ULong amount) {
+    if (words.has_profile && c->profiled && c->at) add_to_line(c->at, number, kind, amount);
 }
 
 static void take_segment(const block *b, const struct counter *of) {
     for (UInt i = 0; i < b->shares_count; i++) {
         const share *s = b->shares + i;
         if (s->segment != of->at) continue;
-        profile_adds(b, s->instruction, s->kind, of->times[0] * (ULong)(Long)s->amount);
+        add_to_line(b, s->instruction, s->kind, of->times[0] * (ULong)(Long)s->amount);
     }
 }
 
@@ -111,9 +122,9 @@ void profile_takes_block(block *b) {
     if (!words.has_profile) return;
     for (struct counter *of = b->counters; of; of = of->next) {
         if (of->what == OF_SEGMENT && of->times[0]) take_segment(b, of);
-        if (of->what == OF_KIND) profile_adds(b, of->at, of->kind, of->times[0]);
+        if (of->what == OF_KIND) add_to_line(b, of->at, of->kind, of->times[0]);
         for (UInt i = 0; of->what == OF_OUTCOMES && i < OUTCOMES; i++)
-            profile_adds(b, of->at, RIGHT_NOT_TAKEN + i, of->times[i]);
+            add_to_line(b, of->at, RIGHT_NOT_TAKEN + i, of->times[i]);
         VG_(memset)(of->times, 0, sizeof of->times);
     }
 }
@@ -183,6 +194,7 @@ static void put_counts(const ULong counts[ALL_KINDS]) {
 }
 
 static void put_function(function *f) {
+    if (!f->is_profiled) return;
     put("code");
     put_number(f->number);
     put_number(f->entry - f->bias);
@@ -194,19 +206,22 @@ static void put_function(function *f) {
     put_counts(f->inclusive);
 }
 
-static void put_line(const line *l) {
-    put("line");
+static void put_place(const line *l) {
     put_number(l->in->number);
     put_number(l->number);
     put_name(l->file);
+    put_name(l->inlined);
+}
+
+static void put_line(const line *l) {
+    put("line");
+    put_place(l);
     put_counts(l->own);
 }
 
 static void put_edge(const edge *e) {
     put("call");
-    put_number(e->from->in->number);
-    put_number(e->from->number);
-    put_name(e->from->file);
+    put_place(e->from);
     put_number(e->to->number);
     put_number(e->calls);
     put_counts(e->inclusive);

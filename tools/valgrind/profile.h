@@ -7,10 +7,11 @@
 #include "code.h"
 #include "functions.h"
 
-/* A line of source in a function. Without debug information the function has one line, 0. */
+/* A line of source in a function, and in what is inlined there. Without debug information the
+ * function has one line, 0. */
 typedef struct line {
     function *in;
-    const HChar *file; /* or NULL */
+    const HChar *inlined, *file; /* or NULL */
     UInt number;
     ULong own[ALL_KINDS];
     struct line *next;
@@ -32,8 +33,8 @@ void code_profiles_segment(code *c);
 void code_profiles_guard(code *c, UInt kind, IRExpr *times);
 void code_profiles_outcome(code *c, IRExpr *offset); /* 8 for each outcome */
 
-/* Something happens in a block beside what its code counts. */
-void profile_adds(const block *b, UInt instruction_number, UInt kind, ULong amount);
+/* Something happens in the block that runs on a core, beside what its code counts. */
+void profile_adds(const core *c, UInt instruction_number, UInt kind, ULong amount);
 
 /* The block's code is gone. */
 void profile_takes_block(block *b);

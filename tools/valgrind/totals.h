@@ -11,9 +11,10 @@
  *     code NUMBER ENTRY OBJECT SYMBOL FILE LINE CALLS [KIND COUNT]..
  *                          for a profile: a function, how often it was called, and what it did with
  *                          all that it called; a name that is not known is \
- *     line FUNCTION LINE FILE [KIND COUNT]..
- *                          what a line did by itself; line 0 of a function without any
- *     call FUNCTION LINE FILE FUNCTION CALLS [KIND COUNT]..
+ *     line FUNCTION LINE FILE INLINED [KIND COUNT]..
+ *                          what a line did by itself, in the function that is inlined there; line 0
+ *                          of a function without any
+ *     call FUNCTION LINE FILE INLINED FUNCTION CALLS [KIND COUNT]..
  *                          calls from a line to a function
  *     children N           the processes that the process made so far
  *     ended                it ended; in its place `exec` if another program is to begin, and then

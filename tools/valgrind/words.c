@@ -134,6 +134,9 @@ Bool words_take(const HChar *word) {
            take_begin(word) || take_totals(word);
 }
 
+/* A word of Valgrind's core: whether it reads which functions are inlined where. */
+extern Bool VG_(clo_read_inline_info);
+
 /* A kind that is counted by others has those too. */
 void words_end(void) {
     static const UChar needs[][2] = {
@@ -143,6 +146,7 @@ void words_end(void) {
         {KL_NOT_TAKEN, STAYED_NOT_TAKEN},
     };
     words.kinds |= 1UL << KL_INSTRUCTIONS;
+    VG_(clo_read_inline_info) = words.has_profile;
     for (UInt i = 0; i < sizeof needs / sizeof *needs; i++)
         if (counts_kind(needs[i][0])) words.kinds |= 1UL << needs[i][1];
 }
