@@ -63,6 +63,7 @@ PARTS = {
     "record": Part(("tools/record", *_parts("codes", "recording", "recording_words", "machine", "valgrind")), "test_record test_tool test_count", is_pure=False),
     "count": Part(("tools/count", *_parts("counting", "ranks")), "test_count", is_pure=False),
     "count_profile": Part(_parts("callgrind_file", "code_profile", "profile_counts"), "test_count_profile", is_pure=False),
+    "profile_page": Part(_parts("profile_page/annotated", "profile_page/flame", "profile_page/making"), "test_profile_page", is_pure=False),
     "count_whole": Part(_parts("attended", "count_files", "count_table", "elf_file", "event_sums", "kinds", "papi_program", "processes", "whole", "whole_counts", "whole_words"),
                         "test_count_whole test_count_functions test_elf_file test_count", is_pure=False),
     "compare": Part(("tools/compare", *_all("tools/parts/compare/*.py")), "test_compare test_compare_texts"),

@@ -22,6 +22,7 @@ from parts.machine import Machine
 from parts.papi_program import prepare_program
 from parts.processes import Process, numbered, read_processes
 from parts.profile_counts import ProfileCounts, as_further_json, profile_counts, profile_table
+from parts.profile_page.making import profile_page
 from parts.whole_counts import ProcessCounts, ThreadCounts, WholeCounts, summed
 
 USUAL = (
@@ -50,9 +51,10 @@ class Whole:
     functions: tuple[str, ...] = ()  # whose calls alone count
     profile: bool = False
     callgrind: str | None = None  # a file
+    page: str | None = None  # a file
 
     def is_profiled(self) -> bool:
-        return self.profile or self.callgrind is not None
+        return self.profile or self.callgrind is not None or self.page is not None
 
     def is_asked(self) -> bool:
         """Whether somebody wants it, whatever the program does."""
@@ -66,7 +68,7 @@ class Outputs:
     def __init__(self, whole: Whole):
         self.files: dict[str, IO[str]] = {}
         names = {"table": whole.table, "json": whole.json, "csv": whole.csv}
-        for kind, name in {**names, "callgrind": whole.callgrind}.items():
+        for kind, name in {**names, "callgrind": whole.callgrind, "page": whole.page}.items():
             if name is not None:
                 try:
                     self.files[kind] = open(
@@ -256,3 +258,5 @@ def _write(
         outputs.write("csv", as_csv(counts))
     if "callgrind" in outputs.files and profile:
         outputs.write("callgrind", callgrind_text(counts, profile))
+    if "page" in outputs.files and profile:
+        outputs.write("page", profile_page(counts, profile))

@@ -40,6 +40,12 @@ def add_whole(parser: argparse.ArgumentParser) -> None:
         help="write the profile in callgrind's format too, for callgrind_annotate and KCachegrind",
     )
     whole.add_argument(
+        "--page",
+        metavar="FILE",
+        help="write the profile as one HTML page too: source with counts, functions, and a flame "
+        "graph; it fetches nothing",
+    )
+    whole.add_argument(
         "--whole",
         action="store_true",
         help="count a program that makes PAPI's calls as a whole too, beside them",
@@ -76,4 +82,5 @@ def whole_of(words: argparse.Namespace) -> Whole:
         functions=tuple(dict.fromkeys(words.functions)),
         profile=words.profile,
         callgrind=named(words.callgrind),
+        page=named(words.page),
     )

@@ -7,6 +7,7 @@ import re
 import shutil
 import signal
 import subprocess
+import sys
 import time
 import unittest
 from pathlib import Path
@@ -183,6 +184,10 @@ class Install(InFolder):
         for tool in ("papi_record", "papi_count", "papi_compare"):
             done = subprocess.run([str(self.prefix / "bin" / tool), "--help"], capture_output=True, text=True)
             self.assertEqual((done.returncode, done.stderr, done.stdout.startswith(f"usage: {tool} ")), (0, "", True), done.stderr)
+        page = "import sys; sys.path.insert(0, sys.argv[1]); from parts.report.frame import Top, framed; print(framed(Top('', '', [], '', ''), [], ''))"
+        words = [sys.executable, "-B", "-I", "-c", page, str(self.prefix / "share/kistalub/recording/tools")]
+        done = subprocess.run(words, capture_output=True, text=True)
+        self.assertTrue(done.stdout.startswith("<!DOCTYPE html>"), done.stderr)
 
     def test_a_staging_folder_and_a_second_time(self) -> None:
         for _ in range(2):

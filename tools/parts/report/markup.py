@@ -9,6 +9,7 @@ from typing import Iterable, Union
 # Characters that no document of HTML or XML may have, and halves of a pair that no text in UTF-8 has.
 UNFIT = re.compile("[\x00-\x08\x0b\x0c\x0e-\x1f\x7f\ud800-\udfff]")
 EMPTY = ("meta", "br")
+LONGEST = 400  # characters of a line of source that is shown
 
 
 class Markup(str):

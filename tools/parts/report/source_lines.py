@@ -9,8 +9,8 @@ from dataclasses import dataclass
 from typing import Sequence
 
 from parts.profile import Bucket
+from parts.report.markup import LONGEST
 
-LONGEST = 400  # characters of a line that is shown
 PLACE = re.compile(r"(.*):([0-9]+)(?: \(discriminator [0-9]+\))?")
 
 
