@@ -55,7 +55,9 @@ def with_list(name: str, text: str, head: str, lines: list[str]) -> str:
 
 # ---- names on a line
 
-# Files with the names of all tools in a row, after these texts.
+# Programs of tools/ that are installed beside the tools.
+PROGRAMS = ("papi_compare", "papi_count", "papi_record")
+# Files with the names of all tools and of these in a row, after these texts.
 NAMES = {
     "completions/kistalub.bash": ("complete -F _kistalub ",),
     "completions/kistalub.fish": ("for tool in ",),
@@ -64,8 +66,8 @@ NAMES = {
 
 
 def with_names(name: str, text: str, front: str, tools: list[Tool]) -> str:
-    """The text of a file with the names of all tools after this text."""
-    names = " ".join(sorted(tool.name for tool in tools))
+    """The text of a file with the names of all tools and programs after this text."""
+    names = " ".join(sorted([*(tool.name for tool in tools), *PROGRAMS]))
     text, times = re.subn(rf"^({re.escape(front)})papi_\w+( papi_\w+)*$", rf"\g<1>{names}", text, flags=re.MULTILINE)
     if times != 1:
         raise Fault(f"{name}: does not have once: {front}papi_..")

@@ -16,6 +16,7 @@ from tests.support import ROOT, InFolder, some
 
 PARTS = ("bin", "include", "man", "completions", "tools", "VERSION", "examples/recorded.unit", "examples/recorded.presets")
 BUILD = '#!/bin/sh\necho "$$" >"${WAITS:-/dev/null}"\n[ -z "${WAITS-}" ] || sleep 60\necho a >"$1/libkistalub.a"\necho so >"$1/libpapi.so.7.0"\n'
+PROGRAMS = ["papi_compare", "papi_count", "papi_record"]
 TOOLS = sorted(path.name for path in (ROOT / "bin").glob("papi_*"))
 USAGE = "usage: install [--uninstall] [--program-suffix SUFFIX] PREFIX\n"
 PATIENCE = 30  # seconds
@@ -71,16 +72,16 @@ class Install(InFolder):
     def test_what_is_where(self) -> None:
         done = self.install("--program-suffix=-x", self.prefix)
         self.assertEqual((done.returncode, done.stdout, done.stderr), (0, "", ""))
-        self.assertEqual(sorted(path.name for path in (self.prefix / "bin").iterdir()), sorted([*(f"{tool}-x" for tool in TOOLS), "papi_compare-x", "papi_count-x", "papi_record-x"]))
+        self.assertEqual(sorted(path.name for path in (self.prefix / "bin").iterdir()), sorted(f"{tool}-x" for tool in (*TOOLS, *PROGRAMS)))
         pages = sorted(path.name for path in (self.prefix / "share/man/man1").iterdir())
-        self.assertEqual(pages, sorted([*(f"{tool}-x.1" for tool in TOOLS), "papi_compare-x.1", "papi_count-x.1", "papi_record-x.1"]))
+        self.assertEqual(pages, sorted(f"{tool}-x.1" for tool in (*TOOLS, *PROGRAMS)))
         for file in ("lib/libkistalub.a", "lib/kistalub/libpapi.so", "lib/kistalub/lib/libpapi.so.7.0", "lib/kistalub/include/papi.h", "lib/kistalub/lib/pkgconfig/papi.pc",
                      "include/kistalub/kistalub.h", "share/kistalub/recording/tools/valgrind/build", "share/kistalub/recording/library/libpapi.so.7.0", "share/zsh/site-functions/_kistalub-x",
-                     "share/bash-completion/completions/papi_run-x", "share/fish/vendor_completions.d/papi_run-x.fish"):  # fmt: skip
+                     "share/bash-completion/completions/papi_run-x", "share/bash-completion/completions/papi_count-x", "share/fish/vendor_completions.d/papi_run-x.fish"):  # fmt: skip
             self.assertTrue((self.prefix / file).exists(), file)
         self.assertEqual([str(path) for path in some(self.prefix.rglob("*")) if path.is_symlink() and not path.exists()], [], "links to nothing")
         for file in some((ROOT / "completions").iterdir()):
-            suffixed = re.sub("|".join(TOOLS), lambda found: f"{found[0]}-x", file.read_text())
+            suffixed = re.sub("|".join((*TOOLS, *PROGRAMS)), lambda found: f"{found[0]}-x", file.read_text())
             self.assertEqual((self.prefix / "share/kistalub/completions" / file.name).read_text(), suffixed)
         self.assertTrue(os.access(self.prefix / "share/kistalub/completions/candidates", os.X_OK))
         self.assertIn("prefix=${pcfiledir}/../..\n", (self.prefix / "lib/pkgconfig/kistalub.pc").read_text())
@@ -163,7 +164,7 @@ class Install(InFolder):
         done = self.install("--uninstall", self.prefix)
         self.assertEqual((done.returncode, done.stdout, done.stderr), (0, "", ""))
         names = sorted(path.name for path in (self.prefix / "bin").iterdir())
-        self.assertEqual(names, sorted(["kept", *(f"{tool}-x" for tool in TOOLS), "papi_compare-x", "papi_count-x", "papi_record-x"]))
+        self.assertEqual(names, sorted(["kept", *(f"{tool}-x" for tool in (*TOOLS, *PROGRAMS))]))
         self.assertTrue((self.prefix / "libexec/kistalub/papi").exists())
         self.assertEqual(self.install("--uninstall", "--program-suffix=-x", self.prefix).returncode, 0)
         self.assertEqual(list(self.prefix.rglob("*")), [kept.parent, kept])
