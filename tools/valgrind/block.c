@@ -7,7 +7,7 @@
 #include "tape.h"
 
 #define FIRST_BUCKETS 4096
-#define CHUNK 1000
+#define CHUNK 336 /* most blocks have less */
 
 typedef struct chunk { struct chunk *next; SizeT used, size; ULong memory[]; } chunk;
 

@@ -1,13 +1,22 @@
 /* The code that asks the modelled machine. Where the line and the page of an access are those that their sets used last, nothing changes and nothing is called. What
  * is on the tape beside it shares that call. */
 #include "code.h"
+
+#include "pub_tool_libcbase.h"
+
 #include "model.h"
 #include "profile.h"
 #include "words.h"
 
+/* Without a tape it ends before what is on the tape. */
 static site *new_site(code *c, UInt size, UInt side) {
-    site *s = block_memory(c->of, sizeof *s);
-    *s = (site){.pc = c->pc, .size = (UShort)size, .instruction = (UShort)c->number, .side = (UShort)side};
+    SizeT length = words.has_tape ? sizeof(site) : __builtin_offsetof(site, slots);
+    site *s = block_memory(c->of, length);
+    VG_(memset)(s, 0, length);
+    s->pc = c->pc;
+    s->size = (UShort)size;
+    s->instruction = (UShort)c->number;
+    s->side = (UShort)side;
     return s;
 }
 
