@@ -2,11 +2,12 @@
 
 from __future__ import annotations
 
+import sys
 from dataclasses import dataclass
 from pathlib import Path
 from typing import Iterable, Iterator
 
-from parts.command import Fault, read_file
+from parts.command import Fault, own_name, read_file
 from parts.processors import Code, tables
 
 RECORDED_UNIT = Path(__file__).resolve().parent.parent.parent / "examples/recorded.unit"
@@ -30,6 +31,7 @@ class Codes:
 
     pmu: str
     lines: tuple[tuple[str, tuple[Code, ...]], ...] = ()
+    rowless: tuple[str, ...] = ()  # events of the unit that the table has no row for, and no line a code
 
     def text(self) -> str:
         """As the tool of Valgrind reads them. Empty for those that it knows."""
@@ -76,18 +78,34 @@ def _first_component(text: str) -> tuple[str, list[Native]]:
 
 
 def codes_of(unit: str) -> Codes:
-    """The codes for a unit file. A fault if its events have codes under which no line of a recording is, or is another event's."""
+    """The codes for a unit file. A fault if an event of it would count what another one does, or has a code of the processor itself."""
     pmu, natives = _first_component(read_file(unit))
     table = tables().get(pmu.lower())
     if table is None:
         return _recorded_codes(unit, pmu, natives)
+    lines = tuple((quantity, tuple(codes)) for quantity, codes in table.lines().items())
+    taken = {select for _, codes in lines for select, _ in codes}
+    rowless: list[str] = []
     for native in natives:
         code = table.code(native.event, native.umask)
+        if code is None and native.code[0] in taken:
+            raise Fault(f"{unit}: {native.name()} has no row in the table of {pmu}, and its code is that of other events: {_advice(pmu)}")
         if code is None:
-            raise Fault(f"{unit}: nothing that is counted here is counted by {native.name()}: {_advice(pmu)}")
-        if code != native.code:
+            rowless.append(native.name())
+        elif code != native.code:
             raise Fault(f"{unit}: {native.name()} has a code of the processor itself: {_advice(pmu)}")
-    return Codes(pmu, tuple((quantity, tuple(codes)) for quantity, codes in table.lines().items()))
+    return Codes(pmu, lines, tuple(rowless))
+
+
+def name_rowless(unit: str, is_strict: bool) -> None:
+    """A line on standard error that names the events of a unit for which the processor's table has no row, so that they count nothing; a fault with --strict."""
+    codes = codes_of(unit)
+    if not codes.rowless:
+        return
+    text = f"{unit}: nothing that is counted here is counted by {', '.join(codes.rowless)}"
+    if is_strict:
+        raise Fault(f"{text}: {_advice(codes.pmu)}")
+    print(f"{own_name()}: {text}", file=sys.stderr)
 
 
 def _advice(pmu: str) -> str:

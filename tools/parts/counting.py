@@ -14,7 +14,7 @@ from typing import NoReturn
 
 from parts import valgrind
 from parts.attended import attend, end_as
-from parts.codes import codes_of
+from parts.codes import codes_of, name_rowless
 from parts.command import Fault, own_name, temporary_folder
 from parts.elf_file import libraries_of
 from parts.machine import Machine
@@ -42,6 +42,7 @@ class Counting:
     cpu: str | None
     keep: str | None
     window: int
+    is_strict: bool = False  # about events without a row
 
 
 def count(counting: Counting, whole: Whole) -> NoReturn:
@@ -51,6 +52,9 @@ def count(counting: Counting, whole: Whole) -> NoReturn:
     program = shutil.which(counting.program)
     if program is None:
         raise Fault(f"{counting.program}: no such program")
+    name_rowless(
+        named_files(counting.unit, None, None)["KISTALUB_UNIT"], counting.is_strict
+    )
     counting = replace(counting, library=_library(counting, program))
     environment = _environment(counting, program, _changes(counting))
     makes_calls = _check_library(program, environment)

@@ -42,6 +42,7 @@ def record_words(name: str) -> argparse.ArgumentParser:
     parser.add_argument("-o", metavar="STREAM", dest="stream", help="the file to write, with the rank of a process of MPI for %%r; with %%t in its name each thread "
                         "has a file, and its number from 0 on stands there; without -o the stream goes to standard output, and what the program writes there "
                         "to standard error")
+    _add_strict(parser)
     parser.add_argument("--only-calls", action="store_true", help="record only between calls of PAPI, while an event set counts: for programs with "
                         "the library of bin/install")
     _add_machine(parser)
@@ -64,6 +65,7 @@ def count_words(name: str) -> argparse.ArgumentParser:
     parser.add_argument("--unit", metavar="UNIT", help="the unit file, such as one of make_unit --counted (examples/recorded.unit, or KISTALUB_UNIT)")
     parser.add_argument("--presets", metavar="PRESETS", help="the preset file (examples/recorded.presets, or KISTALUB_PRESETS); goes with --cpu")
     parser.add_argument("--cpu", metavar="CPU", help="the processor of the preset file (recorded, or KISTALUB_CPU)")
+    _add_strict(parser)
     add_whole(parser)
     lines = parser.add_argument_group("the stream")
     lines.add_argument("--keep", metavar="STREAM", help="write what happens while a set of a thread counts to this file, with the number of the thread for %%t and the "
@@ -72,6 +74,11 @@ def count_words(name: str) -> argparse.ArgumentParser:
     _add_machine(parser)
     _add_program(parser)
     return parser
+
+
+def _add_strict(parser: argparse.ArgumentParser) -> None:
+    parser.add_argument("--strict", action="store_true", help="refuse a unit with events that the table of its processor has no row for; without it a line names these, and they "
+                        "count nothing")
 
 
 def _add_machine(parser: argparse.ArgumentParser) -> None:

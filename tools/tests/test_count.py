@@ -114,10 +114,19 @@ class Programs(Counted):
         program = self.compile(self.NAMED)
         for unit, cause in ((self.UNIT, "INST_RETIRED:ANY_P has a code of the processor itself: tools/make_unit skl --counted"),
                             (self.UNIT.replace(",skl", ",nhm"), "there is no table of what is counted for the events of nhm; there are tables for "),
-                            (self.COUNTED + "EVENT,UOPS_ISSUED,0e,P0 P1,\n", "nothing that is counted here is counted by UOPS_ISSUED")):
+                            (self.COUNTED + "EVENT,UOPS_ISSUED,02,P0 P1,\n", "UOPS_ISSUED has no row in the table of skl, and its code is that of other events")):
             done = self.count(*self.files(unit), program, "INST_RETIRED")
             self.assertEqual((done.stdout, done.returncode), ("", 1))
             self.assertIn(cause, done.stderr)
+
+    def test_an_event_without_a_row_counts_nothing(self) -> None:
+        """A line names it, beside that of the library; with --strict nothing runs."""
+        program, files = self.compile(self.NAMED), self.files(self.COUNTED + "EVENT,UOPS_ISSUED,f0,P0 P1,\n")
+        line = f"{self.folder}/u: nothing that is counted here is counted by UOPS_ISSUED"
+        done = self.count(*files, program, "UOPS_ISSUED")
+        self.assertEqual((done.stdout.split()[0], done.stderr, done.returncode), ("0", f"count: {line}\n" + self.NOTHING.format("skl::UOPS_ISSUED"), 0))
+        done = self.count("--strict", *files, program, "UOPS_ISSUED")
+        self.assertEqual((done.stdout, done.stderr.startswith(f"count: {line}: tools/make_unit skl"), done.returncode), ("", True, 1))
 
     def test_codes_of_another_component_are_not_taken(self) -> None:
         """A program that names a unit of its own finds no lines of the one that tools/count has told of."""

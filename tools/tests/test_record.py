@@ -128,9 +128,19 @@ class Words(unittest.TestCase):
             with self.assertRaisesRegex(Fault, f"{name} has a code that examples/recorded.unit has not.* there are tables for amd64_fam17h_zen1 .* skl "):
                 self.codes(mine + rows + row + "\n")
         for row, cause in (("EVENT,INST_RETIRED,c0,P0,\nUMASK,ANY_P,00,d,", "INST_RETIRED:ANY_P has a code of the processor itself: tools/make_unit skl --counted"),
-                           ("EVENT,BACLEARS,05,P0,\nUMASK,ANY,01,d,", "nothing that is counted here is counted by BACLEARS:ANY: tools/make_unit skl --counted")):
+                           ("EVENT,BACLEARS,05,P0,\nUMASK,ANY,01,d,", "BACLEARS:ANY has no row in the table of skl, and its code is that of other events: tools/make_unit skl --counted")):
             with self.assertRaisesRegex(Fault, cause):
                 self.codes("COMPONENT,cpu,skl\nCOUNTER,P0,48,P\n" + row + "\n")
+
+    def test_events_without_a_row(self) -> None:
+        """Where no line has their code they count nothing: a line names them, and with --strict they are refused."""
+        with tempfile.NamedTemporaryFile("w", suffix=".unit") as unit:
+            unit.write("COMPONENT,cpu,skl\nCOUNTER,P0,48,P\nEVENT,BACLEARS,f0,P0,\nUMASK,ANY,01,d,\nEVENT,UOPS_ISSUED,f1,P0,\n")
+            unit.flush()
+            text = f"record: {unit.name}: nothing that is counted here is counted by BACLEARS:ANY, UOPS_ISSUED"
+            for words, ending in (((), "\nrecord: /no/such/program: no such program\n"), (("--strict",), ": tools/make_unit skl --counted makes the unit that is counted over\n")):
+                done = run_tool("record", *words, "--unit", unit.name, "/no/such/program")
+                self.assertEqual((done.stdout, done.stderr, done.returncode), ("", text + ending, 1), words)
 
     def test_files_of_ranks(self) -> None:
         self.assertEqual(of_rank("plain"), "plain")
