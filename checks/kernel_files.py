@@ -27,6 +27,7 @@ NAMES = {
     "scalar double": "scalar_double",
     "scalar single": "scalar_single",
     "x87": "x87",
+    "locked load": "locked_loads",
     **{name: name.replace(" ", "_") for name in FLOATING},
 }
 MISSES = {
@@ -34,7 +35,17 @@ MISSES = {
     "store miss": "l1d_store_misses",
     "load page miss": "dtlb_load_misses",
     "store page miss": "dtlb_store_misses",
+    "split load": "split_loads",
+    "split store": "split_stores",
 }
+OPERATIONS = ("added", "multiplied", "divided", "fused")
+ELEMENTS = {
+    f"{operation} {form}": f"{operation}_{form}s"
+    for operation in OPERATIONS
+    for form in ("double", "single")
+}
+# What only the kernels of some files know.
+FURTHER = {"lines": MISSES, "elements": ELEMENTS}
 
 
 @dataclass
@@ -44,7 +55,7 @@ class Kernel:
     name: str
     body: list[str]
     each: Counter[str]
-    knows_misses: bool
+    further: tuple[str, ...]  # kinds that are known beside those of all kernels
     turns: int = TURNS
     first: list[str] = field(default_factory=list)
     last: list[str] = field(default_factory=list)
@@ -66,7 +77,7 @@ class Kernel:
         total["instructions"] += 1 + len(self.first) + 2 * self.turns + len(self.last)
         total["conditional_taken"] += self.turns - 1
         total["conditional_not_taken"] += 1
-        known = [*NAMES.values(), *(MISSES.values() if self.knows_misses else ())]
+        known = [*NAMES.values(), *self.further]
         return {kind: total[kind] for kind in known}
 
     def text(self) -> str:
@@ -93,7 +104,7 @@ def read_counts(text: str, place: str) -> Counter[str]:
     for part in text.split(","):
         found = re.fullmatch(r"(\d+) (.+)", part.strip())
         name = re.sub(r"(?<=miss)es$|(?<!s)s$", "", found[2]) if found else ""
-        kind = {**NAMES, **MISSES}.get(name)
+        kind = {**NAMES, **MISSES, **ELEMENTS}.get(name)
         if not found or kind is None:
             raise Fault(f"{place}: no count: {part.strip()}")
         counts[kind] += int(found[1])
@@ -137,8 +148,8 @@ def read_kernels(path: Path) -> list[Kernel]:
             take_further(kernels[-1], word, rest, place)
             continue
         body, _, counts = rest.rpartition(" = ")
-        each, knows_misses = read_counts(counts, place), path.stem == "lines"
-        kernels.append(Kernel(word.removesuffix(":"), body.split(" ; "), each, knows_misses))
+        each, further = read_counts(counts, place), tuple(FURTHER.get(path.stem, {}).values())
+        kernels.append(Kernel(word.removesuffix(":"), body.split(" ; "), each, further))
     return kernels
 
 

@@ -27,6 +27,7 @@ PARTS = (
     ("l1i_", FIRST_OF_FETCHES),
     ("l2_", SECOND),
     ("l3_", THIRD),
+    ("split_", FIRST_OF_DATA),
     ("dtlb_", {"dtlb"}),
     ("itlb_", {"itlb"}),
     ("mispredicted_", {PREDICTOR}),

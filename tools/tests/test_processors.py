@@ -53,9 +53,13 @@ class Tables(unittest.TestCase):
             ("snb", "SIMD_FP_256", "PACKED_DOUBLE", "double_256"),
             ("amd64_fam17h_zen2", "RETIRED_TAKEN_BRANCH_INSTRUCTIONS", "", "conditional_taken jumps calls returns"),
             ("amd64_fam19h_zen4", "L1_DTLB_MISS", "TLB_RELOAD_1G_L2_MISS", NOTHING),
+            ("clx", "MEM_INST_RETIRED", "LOCK_LOADS", "locked_loads"),
+            ("bdw", "MEM_UOPS_RETIRED", "SPLIT_STORES", "split_stores"),
+            ("amd64_fam17h_zen1", "RETIRED_SSE_AVX_OPERATIONS", "DP_MULT_ADD_FLOPS", "fused_doubles"),
+            ("amd64_fam19h_zen3", "RETIRED_SSE_AVX_FLOPS", "DIV_FLOPS", "divided_doubles divided_singles"),
         ):
             self.assertEqual(tables()[pmu].rows[event, umask].quantities, tuple(wanted.split()), (pmu, event))
-        for pmu, event, umask in (("skl", "MEM_INST_RETIRED", "LOCK_LOADS"), ("skl", "L2_RQSTS", "PF_MISS"), ("amd64_fam17h_zen2", "RETIRED_LOCK_INSTRUCTIONS", "BUS_LOCK")):
+        for pmu, event, umask in (("skl", "MEM_LOAD_RETIRED", "FB_HIT"), ("skl", "L2_RQSTS", "PF_MISS"), ("amd64_fam17h_zen2", "RETIRED_LOCK_INSTRUCTIONS", "BUS_LOCK")):
             self.assertIsNone(tables()[pmu].code(event, umask), event)
 
     def test_the_documents_have_all(self) -> None:
@@ -105,9 +109,9 @@ class Units(InFolder):
         self.assertTrue(rows[2].startswith("# counted: "))
         names = {tuple(row.split(",")[:2]) for row in rows}
         self.assertLessEqual({("EVENT", "INST_RETIRED"), ("UMASK", "ANY"), ("UMASK", "REF_TSC"), ("UMASK", "COND_NTAKEN")}, names)
-        self.assertFalse({("EVENT", "UOPS_ISSUED"), ("UMASK", "LOCK_LOADS")} & names)
+        self.assertFalse({("EVENT", "UOPS_ISSUED"), ("UMASK", "FB_HIT")} & names)
         left_out = " ".join(row[4:] for row in rows if row.startswith("#   ")).split()
-        self.assertIn("MEM_INST_RETIRED:LOCK_LOADS", left_out)
+        self.assertIn("MEM_LOAD_RETIRED:FB_HIT", left_out)
         select, mask = tables()["icl"].code("L2_RQSTS", "CODE_RD_MISS") or (0, 0)
         place = next(number for number, row in enumerate(rows) if row.startswith(f"EVENT,L2_RQSTS,{select:02x},"))
         self.assertTrue(any(row.startswith(f"UMASK,CODE_RD_MISS,{mask:02x},") for row in rows[place : place + 17]))

@@ -16,7 +16,7 @@ typedef struct {
     UInt size;
     UChar class;
     UInt loads;               /* of an instruction that repeats itself, so far */
-    Bool is_counted, is_branch_seen;
+    Bool is_counted, is_branch_seen, is_locked;
     Addr fetched_page, fetched_line; /* of the last fetch in this block */
     Bool is_redirected;       /* Valgrind runs this code in place of the program's */
     Bool asks_machine;        /* since the block could be left; only if the machine can pass a threshold */

@@ -87,6 +87,7 @@ void code_accesses(code *c, const access *a) {
     if (!is_asked && !words.has_tape) return;
     site *s = new_site(c, a->size, a->loads ? BY_LOAD : BY_STORE);
     s->notes_hits = notes_hits(a);
+    s->stores_too = a->loads && a->stores;
     IRExpr *full = NULL, *guard = a->guard;
     const Bool happens[] = {a->loads, a->stores};
     for (UInt k = 0; words.has_tape && k < 2; k++) {

@@ -137,6 +137,33 @@ unsigned char class_of_bytes(const unsigned char *bytes, unsigned length) {
     return class_of_0f(&p, behind) | (p.has_lock && !compares ? LOCKS : 0);
 }
 
+static operation operation_of_0f(unsigned char opcode) {
+    switch (opcode) {
+    case 0x58: case 0x5C: case 0x7C: case 0x7D: case 0xD0: return ADDS; /* add, sub, hadd, hsub, addsub */
+    case 0x59: return MULTIPLIES;
+    case 0x51: case 0x5E: return DIVIDES; /* sqrt, div */
+    default: return DOES_OTHER;
+    }
+}
+
+operation operation_of_bytes(const unsigned char *bytes, unsigned length) {
+    const unsigned char *end = bytes + length;
+    prefixes p = {0};
+    const unsigned char *at = read_prefixes(&p, bytes, end);
+    if (at + 1 >= end) return DOES_OTHER;
+    if (*at == 0x0F) return operation_of_0f(at[1]);
+    bool is_short = *at == 0xC5;
+    if ((!is_short && *at != 0xC4) || at + (is_short ? 2 : 3) >= end) return DOES_OTHER;
+    unsigned map = is_short ? 1 : at[1] & 31;
+    return map == 1 ? operation_of_0f(at[is_short ? 2 : 3]) : map == 2 ? FUSES : DOES_OTHER;
+}
+
+bool locks_memory(const unsigned char *bytes, unsigned length) {
+    prefixes p = {0};
+    const unsigned char *end = bytes + length, *at = read_prefixes(&p, bytes, end);
+    return p.has_lock || (at + 1 < end && (*at == 0x86 || *at == 0x87) && at[1] < 0xC0);
+}
+
 /* -- operands in memory -- */
 
 static operands operands_of_vex(const unsigned char *at, const unsigned char *end) {

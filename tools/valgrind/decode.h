@@ -29,6 +29,13 @@ enum {
 /* The class of the instruction in these bytes. */
 unsigned char class_of_bytes(const unsigned char *bytes, unsigned length);
 
+/* What an instruction of floating-point arithmetic does with each element of its width. */
+typedef enum { ADDS, MULTIPLIES, DIVIDES, FUSES, DOES_OTHER } operation; /* DIVIDES: roots too; DOES_OTHER: such as max, or several of these */
+operation operation_of_bytes(const unsigned char *bytes, unsigned length);
+
+/* Whether the instruction locks memory: by its prefix, or as an exchange with memory does by itself. */
+bool locks_memory(const unsigned char *bytes, unsigned length);
+
 /* What an instruction's accesses are, beside Valgrind's own code for it. */
 typedef enum {
     OPERANDS_WHOLE,      /* what it has at one place is one operand, however many parts are taken */

@@ -63,12 +63,30 @@ static void instruction_ends(code *c, Bool is_known, Addr next) {
     branch_ends(c, is_known, next);
 }
 
+/* What is not counted by most units is on the tape only if its lines have a code. */
+static void notes_if_coded(code *c, UInt kind, UInt amount, UInt phase, IRExpr *guard) {
+    if (words.codes[kind].count) code_notes(c, kind, c->pc, amount, phase, guard);
+}
+
+/* The operations on each element. A fused one is two. */
+static void computes_elements(code *c, UInt class) {
+    static const UChar elements[] = {[SCALAR_DOUBLE] = 1, [SCALAR_SINGLE] = 1, [DOUBLE_128] = 2, [SINGLE_128] = 4, [DOUBLE_256] = 4, [SINGLE_256] = 8, [DOUBLE_512] = 8, [SINGLE_512] = 16};
+    if (class == X87) return;
+    operation does = operation_of_bytes((const UChar *)c->pc, c->size);
+    if (does == DOES_OTHER) return;
+    Bool of_doubles = class == SCALAR_DOUBLE || class == DOUBLE_128 || class == DOUBLE_256 || class == DOUBLE_512;
+    UInt kind = (of_doubles ? KL_ADDED_DOUBLES : KL_ADDED_SINGLES) + (UInt)does, amount = elements[class] * (does == FUSES ? 2u : 1u);
+    code_happens(c, kind, (Int)amount);
+    notes_if_coded(c, kind, amount, IN_FETCH, NULL);
+}
+
 static void instruction_computes(code *c) {
     UInt class = kind_of_class(c);
     if (class < SCALAR_DOUBLE || class > X87) return;
     UInt kind = KL_SCALAR_DOUBLES + class - SCALAR_DOUBLE, amount = c->class & TWICE ? 2 : 1;
     code_happens(c, kind, (Int)amount);
     code_notes(c, kind, c->pc, amount, IN_FETCH, NULL);
+    computes_elements(c, class);
 }
 
 /* Counting begins at the first entry of a function. Where this is inside of a block, it begins with the next one. */
@@ -92,6 +110,7 @@ static void instruction_begins(code *c, Addr pc, UInt size) {
     code_begins(c);
     code_checks_behind(c, pc);
     c->class = class_of_bytes((const UChar *)pc, size);
+    c->is_locked = locks_memory((const UChar *)pc, size);
     c->of->instructions[c->number] = (instruction){pc, (UShort)size, (UShort)c->segment};
     if (!(c->class & REPEATS)) code_happens(c, KL_INSTRUCTIONS, 1);
     if (words.has_further && c->class & REPEATS) code_happens(c, TURNS, 1);
@@ -167,6 +186,10 @@ static void see_access(code *c, access *a) {
     if (words.has_rep_lines && c->class & REPEATS) guards_by_line(c, a);
     if (a->loads) count_access(c, a, KL_LOADS);
     if (a->stores) count_access(c, a, KL_STORES);
+    if (a->loads && c->is_locked) {
+        count_access(c, a, KL_LOCKED_LOADS);
+        notes_if_coded(c, KL_LOCKED_LOADS, 1, IN_ACCESS, a->guard);
+    }
     if (words.has_further && a->loads && a->stores) code_happens(c, MODIFIES, 1);
     code_accesses(c, a);
 }

@@ -29,6 +29,9 @@ const char *const kind_names[ALL_KINDS] = {
     [KL_ERRED_TAKEN] = "mispredicted_taken", [KL_ERRED_NOT_TAKEN] = "mispredicted_not_taken",
     [KL_SCALAR_DOUBLES] = "scalar_double", [KL_SCALAR_SINGLES] = "scalar_single", [KL_DOUBLES_128] = "double_128", [KL_SINGLES_128] = "single_128",
     [KL_DOUBLES_256] = "double_256", [KL_SINGLES_256] = "single_256", [KL_DOUBLES_512] = "double_512", [KL_SINGLES_512] = "single_512", [KL_X87S] = "x87",
+    [KL_LOCKED_LOADS] = "locked_loads", [KL_SPLIT_LOADS] = "split_loads", [KL_SPLIT_STORES] = "split_stores",
+    [KL_ADDED_DOUBLES] = "added_doubles", [KL_MULTIPLIED_DOUBLES] = "multiplied_doubles", [KL_DIVIDED_DOUBLES] = "divided_doubles", [KL_FUSED_DOUBLES] = "fused_doubles",
+    [KL_ADDED_SINGLES] = "added_singles", [KL_MULTIPLIED_SINGLES] = "multiplied_singles", [KL_DIVIDED_SINGLES] = "divided_singles", [KL_FUSED_SINGLES] = "fused_singles",
     [LOAD_HITS] = "load_hits", [LOCKED] = "locked", [REPEATED] = "repeated", [TURNS] = "turns", [MODIFIES] = "modifies",
 };
 

@@ -6,12 +6,13 @@
 #include "thresholds.h"
 #include "words.h"
 
-enum { OWN_MISS, L2_HIT, L2_MISS, L3_HIT, L3_MISS, PAGE_MISS, CYCLES, STALLS, OWN_HIT, MADE_HERE };
+enum { OWN_MISS, L2_HIT, L2_MISS, L3_HIT, L3_MISS, PAGE_MISS, CYCLES, STALLS, OWN_HIT, SPLIT, STORE_SPLIT, MADE_HERE };
 enum { ERRED_NOT_TAKEN, ERRED_TAKEN };
 
 static const UChar kinds[4][MADE_HERE] = {
-    [BY_LOAD] = {KL_L1D_LOAD_MISSES, KL_L2_LOAD_HITS, KL_L2_LOAD_MISSES, KL_L3_LOAD_HITS, KL_L3_LOAD_MISSES, KL_DTLB_LOAD_MISSES, KL_CYCLES, KL_STALLS, LOAD_HITS},
-    [BY_STORE] = {KL_L1D_STORE_MISSES, KL_L2_STORE_HITS, KL_L2_STORE_MISSES, KL_L3_STORE_HITS, KL_L3_STORE_MISSES, KL_DTLB_STORE_MISSES, KL_CYCLES, KL_STALLS},
+    [BY_LOAD] = {KL_L1D_LOAD_MISSES, KL_L2_LOAD_HITS, KL_L2_LOAD_MISSES, KL_L3_LOAD_HITS, KL_L3_LOAD_MISSES, KL_DTLB_LOAD_MISSES, KL_CYCLES, KL_STALLS, LOAD_HITS, KL_SPLIT_LOADS,
+                 KL_SPLIT_STORES},
+    [BY_STORE] = {KL_L1D_STORE_MISSES, KL_L2_STORE_HITS, KL_L2_STORE_MISSES, KL_L3_STORE_HITS, KL_L3_STORE_MISSES, KL_DTLB_STORE_MISSES, KL_CYCLES, KL_STALLS, [SPLIT] = KL_SPLIT_STORES},
     [BY_FETCH] = {KL_L1I_MISSES, KL_L2_FETCH_HITS, KL_L2_FETCH_MISSES, KL_L3_FETCH_HITS, KL_L3_FETCH_MISSES, KL_ITLB_MISSES, KL_CYCLES, KL_STALLS},
     [BY_BRANCH] = {[ERRED_NOT_TAKEN] = KL_ERRED_NOT_TAKEN, [ERRED_TAKEN] = KL_ERRED_TAKEN, [CYCLES] = KL_CYCLES, [STALLS] = KL_STALLS},
 };
@@ -28,7 +29,7 @@ static void happens(core *c, site *s, UInt what) {
     c->counts[kind]++;
     profile_adds(c, s->instruction, kind, 1);
     if (is_machine_armed && --c->left[kind] <= 0) c->leaves = -1;
-    if (c->tape) put_on_tape(c, s, what, 1);
+    if (c->tape && words.codes[kind].count) put_on_tape(c, s, what, 1);
 }
 
 static void stall(core *c, site *s, UInt cost) {
@@ -63,6 +64,13 @@ static void use(cache *part, Addr address) {
     if (part->tags) part->used_last[address >> part->line_bits & part->last_set] = address >> part->line_bits << part->line_bits;
 }
 
+/* An access that needs the next line too. Generated code comes here with each that is not aligned. */
+static void splits(core *c, site *s, Addr address, const cache *lines) {
+    if (!lines->tags || address >> lines->line_bits == (address + s->size - 1) >> lines->line_bits) return;
+    happens(c, s, SPLIT);
+    if (s->stores_too) happens(c, s, STORE_SPLIT);
+}
+
 static void meet(core *c, site *s, Addr address, cache *pages, cache *lines) {
     if (c->is_nobodys) {
         use(pages, address);
@@ -85,7 +93,9 @@ void model_sees_access(site *s, Addr address) {
     core *c = current;
     for (UInt i = 0; i < s->items; i++)
         if (has_no_room(c, s->access[i].slot)) tape_sees_item(s->access + i);
-    if (words.has_model) meet(c, s, address, &c->dtlb, &c->l1d);
+    if (!words.has_model) return;
+    meet(c, s, address, &c->dtlb, &c->l1d);
+    if (!c->is_nobodys) splits(c, s, address, &c->l1d);
 }
 
 void model_sees_masked(site *s, Addr address, ULong mask, ULong width) {
@@ -93,6 +103,7 @@ void model_sees_masked(site *s, Addr address, ULong mask, ULong width) {
     UInt first = (UInt)__builtin_ctzll(mask), last = 63 - (UInt)__builtin_clzll(mask);
     s->size = (UShort)((last - first + 1) * width);
     meet(current, s, address + first * width, &current->dtlb, &current->l1d);
+    if (!current->is_nobodys) splits(current, s, address + first * width, &current->l1d);
 }
 
 void model_sees_fetch(site *s) { meet(current, s, s->pc, &current->itlb, &current->l1i); }

@@ -11,7 +11,8 @@ typedef struct {
     UShort size, instruction, side; /* size: of the access, or of the instruction */
     UShort items;                   /* of an access: how many there are */
     Bool notes_hits;                /* a load that finds its line in the first level is on the tape */
-    UInt slots[9];                  /* of what the machine does here, 0 for what it did not yet */
+    Bool stores_too;                /* a load that stores at its place */
+    UInt slots[11];                 /* of what the machine does here, 0 for what it did not yet */
     item access[2], line, branch[2]; /* what is on the tape here; a branch is not taken, or is */
 } site;
 enum { BY_LOAD, BY_STORE, BY_FETCH, BY_BRANCH };
