@@ -44,8 +44,22 @@ ELEMENTS = {
     for operation in OPERATIONS
     for form in ("double", "single")
 }
+SIDES = ("load", "store", "fetch")
+LEVELS = {
+    **{name: kind for name, kind in MISSES.items() if "split" not in name},
+    "l1i miss": "l1i_misses",
+    "itlb miss": "itlb_misses",
+    **{
+        f"{level} {side} {found}": f"{level}_{side}_{kind}"
+        for level in ("l2", "l3")
+        for side in SIDES
+        for found, kind in (("hit", "hits"), ("miss", "misses"))
+    },
+}
+WRONG = {"wrong taken": "mispredicted_taken", "wrong not taken": "mispredicted_not_taken"}
 # What only the kernels of some files know.
-FURTHER = {"lines": MISSES, "elements": ELEMENTS}
+FURTHER = {"lines": MISSES, "elements": ELEMENTS, "levels": LEVELS, "predicted": WRONG}
+COSTS = {"l2": 8, "l3": 38, "memory": 200, "page": 20}  # in cycles (docs/RECORDING.md)
 
 
 @dataclass
@@ -55,8 +69,9 @@ class Kernel:
     name: str
     body: list[str]
     each: Counter[str]
-    further: tuple[str, ...]  # kinds that are known beside those of all kernels
+    file: str  # where it stands, without its ending
     turns: int = TURNS
+    begins_page: bool = False
     first: list[str] = field(default_factory=list)
     last: list[str] = field(default_factory=list)
     after: list[str] = field(default_factory=list)
@@ -77,13 +92,26 @@ class Kernel:
         total["instructions"] += 1 + len(self.first) + 2 * self.turns + len(self.last)
         total["conditional_taken"] += self.turns - 1
         total["conditional_not_taken"] += 1
-        known = [*NAMES.values(), *self.further]
+        known = [*NAMES.values(), *FURTHER.get(self.file, {}).values()]
         return {kind: total[kind] for kind in known}
+
+    def derived(self) -> dict[str, int]:
+        """What follows from what the levels serve, if no branch is predicted."""
+        counts = self.wanted()
+        pages = sum(counts[f"{buffer}_misses"] for buffer in ("dtlb_load", "dtlb_store", "itlb"))
+        stalls = COSTS["page"] * pages
+        for side in SIDES:
+            stalls += COSTS["l2"] * counts[f"l2_{side}_hits"]
+            stalls += COSTS["l3"] * counts[f"l3_{side}_hits"]
+            stalls += COSTS["memory"] * counts[f"l3_{side}_misses"]
+        hits = counts["loads"] - counts["l1d_load_misses"]
+        return {"load_hits": hits, "stalls": stalls, "cycles": counts["instructions"] + stalls}
 
     def text(self) -> str:
         """For GNU's assembler."""
         lines = [
-            f".p2align 6\n.globl kernel_{self.name}\n.type kernel_{self.name}, @function",
+            f".p2align {12 if self.begins_page else 6}",
+            f".globl kernel_{self.name}\n.type kernel_{self.name}, @function",
             f"kernel_{self.name}:",
             f"mov ${self.turns},%r15d",
             *self.first,
@@ -104,7 +132,7 @@ def read_counts(text: str, place: str) -> Counter[str]:
     for part in text.split(","):
         found = re.fullmatch(r"(\d+) (.+)", part.strip())
         name = re.sub(r"(?<=miss)es$|(?<!s)s$", "", found[2]) if found else ""
-        kind = {**NAMES, **MISSES, **ELEMENTS}.get(name)
+        kind = {**NAMES, **MISSES, **ELEMENTS, **LEVELS, **WRONG}.get(name)
         if not found or kind is None:
             raise Fault(f"{place}: no count: {part.strip()}")
         counts[kind] += int(found[1])
@@ -126,6 +154,8 @@ def take_further(kernel: Kernel, word: str, rest: str, place: str) -> None:
     """A line below a kernel's own."""
     if word == "turns":
         kernel.turns = int(rest)
+    elif word == "page":
+        kernel.begins_page = True
     elif word == "whole":
         kernel.whole += read_counts(rest, place)
     elif word == "by":
@@ -148,8 +178,8 @@ def read_kernels(path: Path) -> list[Kernel]:
             take_further(kernels[-1], word, rest, place)
             continue
         body, _, counts = rest.rpartition(" = ")
-        each, further = read_counts(counts, place), tuple(FURTHER.get(path.stem, {}).values())
-        kernels.append(Kernel(word.removesuffix(":"), body.split(" ; "), each, further))
+        each = read_counts(counts, place)
+        kernels.append(Kernel(word.removesuffix(":"), body.split(" ; "), each, path.stem))
     return kernels
 
 

@@ -26,7 +26,9 @@ extern const kernel kernels[];
 extern void kernel_empty(void);
 
 extern const char first[] __asm__("__start_kistalub_code"), end[] __asm__("__stop_kistalub_code");
+#define COLD 65536
 PAGE char block_a[BLOCK], block_b[BLOCK], kernel_stack[65536];
+PAGE char cold_a[COLD], cold_b[COLD]; /* what no kernel but one has */
 static PAGE volatile char other[OTHER];
 PAGE char place[4096];
 PAGE int ones[1024];
@@ -48,12 +50,19 @@ void kl_live_stops(uint64_t pc) {
     "rolq $3, %%rdi\n rolq $13, %%rdi\n rolq $61, %%rdi\n rolq $51, %%rdi\n xchgq %%rbx, %%rbx\n"
 
 /* The stack's end is in the middle of a page, so that its line is in another set than the first
- * lines of pages. */
+ * lines of pages. What is counted beside the kernel is in one line, which is the third of a page.
+ * Two loops make a small predictor known: each is left with its counter at 3 and then 2, and the
+ * second begins behind a branch that was not taken. */
+#define WARMS                                                                                      \
+    "mov $8, %%ecx\n 1: dec %%ecx\n .p2align 1\n jnz 1b\n"                                         \
+    "mov $8, %%ecx\n .p2align 1\n 1: dec %%ecx\n .p2align 1\n nop\n jnz 1b\n"                      \
+    ".p2align 12, 0x90\n .skip 100, 0x90\n"
+
 static __attribute__((noinline)) void measure(void (*run)(void)) {
     __asm__ volatile(
         "mov %%rsp, saved_stack(%%rip)\n"
         " lea kernel_stack + 61440 + 2048(%%rip), %%rsp\n mov %0, %%r12\n"
-        "lea ask_before(%%rip), %%rax\n xor %%edx, %%edx\n" ASKS
+        WARMS "lea ask_before(%%rip), %%rax\n xor %%edx, %%edx\n" ASKS
         "lea block_a(%%rip), %%rsi\n"
         " lea block_b(%%rip), %%rdi\n mov %%rsi, %%r14\n mov %%rdi, %%r13\n"
         "call *%%r12\n"
@@ -72,13 +81,13 @@ static void leave_caches(void) {
 }
 
 static void run(const kernel *k, long counts[KL_KINDS]) {
-    const kernel both[2] = {{"empty", kernel_empty}, *k};
-    for (int i = 0; i < 2; i++) {
+    const kernel both[3] = {{"empty", kernel_empty}, {"empty", kernel_empty}, *k};
+    for (int i = 0; i < 3; i++) {
         leave_caches();
         __asm__ volatile("fninit; vzeroupper");
         measure(both[i].run);
         for (int kind = 0; kind < KL_KINDS; kind++)
-            counts[kind] = (long)(after[kind] - before[kind]) - (i ? counts[kind] : 0);
+            counts[kind] = (long)(after[kind] - before[kind]) - (i == 2 ? counts[kind] : 0);
     }
 }
 
@@ -100,6 +109,7 @@ int main(int count, char **words) {
     if (count != WORDS + 1) return 9;
     for (int i = 0; i < WORDS; i++) numbers[i] = number_of(words[i + 1]);
     memset(ones, 255, sizeof ones);
+    for (int i = 0; i < BLOCK; i += 64) block_a[i] = block_b[i] = 0; /* the third level has them */
     if (kl_ask(KL_HELLO, (uintptr_t)first, (uintptr_t)end, (uintptr_t)kl_live_stub) != KL_VERSION)
         return 8;
     for (int i = 0; i < 4; i += 2)

@@ -32,6 +32,7 @@ ANY_THREAD = 1 << 21  # of the core, not this one alone
 AMOUNT_PLACE = 24
 CORE_CYCLES = 1  # the fixed counter on which the kernel's watchdog counts
 SAYABLE_BITS = 0xFF000000 | INVERT | EDGE | 0xFFFF
+WIDER_SELECT = 0xF  # AMD's select codes have four bits more, behind the first 32
 
 # The events that all of Intel's cores have (its manual, volume 3, architectural performance events), by the names of libpfm4's table ix86arch. PAPI finds them beside the
 # core's own. libpfm4 makes that table out of what the machine says on which it runs, so it is empty elsewhere.
@@ -250,11 +251,11 @@ class Converter:
             coded = Coded(self.encode(name))
         except Refused as refusal:
             raise LeftOut(f"libpfm4 says: {refusal}") from None
-        if coded.special >> 32:
+        if coded.special >> 32 and not (self.choice.is_counted and coded.special >> 32 <= WIDER_SELECT):
             raise LeftOut("the select code has more than 8 bits")
         if coded.special & ANY_THREAD:
             raise LeftOut("the code counts for any thread of a core, and a stream is one thread's own")
-        if coded.special & ~SAYABLE_BITS:
+        if coded.special & 0xFFFFFFFF & ~SAYABLE_BITS:
             raise LeftOut("the code sets a bit that is no modifier of a unit")
         return coded
 

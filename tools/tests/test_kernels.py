@@ -9,9 +9,12 @@ import unittest
 from collections import Counter
 from pathlib import Path
 
+from kernel_events import difference, meaning_of
 from kernel_files import Kernel, all_kernels, read_kernels
 from parts.command import Fault
-from tests.support import ROOT, InFolder, needs_command
+from parts.event_sums import Sum
+from parts.processors import NOTHING, tables
+from tests.support import ROOT, InFolder, needs_command, needs_libpfm4, needs_program, some
 
 # What the processor's manuals and compilers have: each word is in some kernel's text.
 CLASSES = (
@@ -125,6 +128,39 @@ class Kernels(unittest.TestCase):
         )
         self.assertEqual((done.returncode, done.stderr), (0, ""), done.stdout[-3000:])
         self.assertRegex(done.stdout, r"\A\d{4} passed, 0 failed\n\Z")
+
+    @needs_libpfm4
+    @needs_program
+    @needs_command("nm", "binutils")
+    def test_kernels_over_processors(self) -> None:
+        """One of Intel's and one of AMD's."""
+        command = [str(ROOT / "checks/kernels"), "--processors", "skl", "amd64_fam17h_zen1"]
+        done = subprocess.run([sys.executable, *command], capture_output=True, text=True)
+        self.assertEqual((done.returncode, done.stderr), (0, ""), done.stdout[-3000:])
+        self.assertRegex(done.stdout, r"skl: 100 of 104 events tried; Valgrind does not run AVX-512: ")
+        self.assertRegex(done.stdout, r"\n\d{3} passed, 0 failed\n\Z")
+
+
+class Meanings(unittest.TestCase):
+    def test_each_row_is_what_its_name_means(self) -> None:
+        for pmu, table in some(tables().items()):
+            for row in table.rows.values():
+                kinds = tuple(kind for kind in row.quantities if kind != NOTHING)
+                self.assertEqual(sorted(meaning_of(row.name) or ()), sorted(kinds), (pmu, row.name))
+        self.assertIsNone(meaning_of("UOPS_ISSUED:ANY"))
+
+    def test_an_event_that_counts_something_else(self) -> None:
+        """By the first kernel that shows it; and one that no kernel shows is told."""
+        kernels = [kernel for kernel in all_kernels() if kernel.name in ("jmp_direct", "call_direct")]
+        jumps = ("jumps",)
+        for weights, wanted in (
+            ({"jumps": 1}, ("", True)),
+            ({"jumps": 2}, ("jmp_direct: 4,000 for 2,000", True)),
+            ({"jumps": 1, "calls": 1}, ("call_direct: 1,000 for 0", True)),
+            ({"cycles": 1}, ("counts cycles", True)),
+        ):
+            self.assertEqual(difference(Sum("E", weights), jumps, kernels), wanted)
+        self.assertEqual(difference(Sum("E", {"x87": 1}), ("x87",), kernels), ("", False))
 
 
 @needs_command("valgrind", "valgrind")

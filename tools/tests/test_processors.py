@@ -120,6 +120,13 @@ class Units(InFolder):
         for pmu in ("skl", "spr", "amd64_fam17h_zen1"):
             self.assertEqual(dict(codes_of(self.unit(pmu)).lines), {quantity: tuple(codes) for quantity, codes in tables()[pmu].lines().items()})
 
+    def test_codes_of_more_than_eight_bits(self) -> None:
+        """AMD has some. A unit with codes of its own has these events too, and one with the processor's has not."""
+        rows = Path(self.unit("amd64_fam19h_zen3")).read_text(encoding="utf-8")
+        for row in ("EVENT,RETIRED_BRANCH_MISPREDICTED_DIRECTION_MISMATCH,", "EVENT,IC_TAG_HIT_MISS,"):
+            self.assertIn(row, rows)
+            self.assertNotIn(row, run_tool("make_unit", "amd64_fam19h_zen3").stdout)
+
     def test_a_processor_without_a_table(self) -> None:
         done = run_tool("make_unit", "nhm", "--counted")
         self.assertEqual((done.stdout, done.returncode), ("", 1))

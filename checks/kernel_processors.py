@@ -1,0 +1,74 @@
+"""The kernels over each processor's unit: its recording, its events and PAPI's presets."""
+
+from __future__ import annotations
+
+from pathlib import Path
+from typing import Callable
+
+from kernel_events import Judged, judge_events, make_unit
+from kernel_files import ELEMENTS, MISSES, NAMES, Kernel
+from kernel_presets import PRESETS, has_presets, judge_presets
+
+from parts.codes import codes_of
+from parts.command import counted
+from parts.processors import Table, tables
+from running import Tally
+
+Counts = dict[str, dict[str, int]]  # of each kernel by a line's code
+Recorder = Callable[[str], Counts]  # of a unit
+RECORDED = {*NAMES.values(), *MISSES.values(), *ELEMENTS.values()}
+
+
+def judge_lines(unit: str, kernels: list[Kernel], found: Counts, tally: Tally) -> None:
+    """Each line of a recording over the unit, beside the kernel's numbers and its return."""
+    lines = [
+        (kind, f"{select:02x} {mask:02x}")
+        for kind, codes in codes_of(unit).lines
+        for select, mask in codes
+        if kind in RECORDED
+    ]
+    for kernel in kernels:
+        wanted = kernel.wanted()
+        for kind in ("instructions", "loads", "returns"):
+            wanted[kind] += 1
+        wrong = [
+            f"{found[kernel.name].get(code, 0):,} {kind} for {wanted[kind]:,}"
+            for kind, code in lines
+            if kind in wanted and found[kernel.name].get(code, 0) != wanted[kind]
+        ]
+        tally.judge(f"recorded over {unit}: {kernel.name}", ", ".join(wrong))
+
+
+def judge_all(title: str, judged: Judged, tally: Tally) -> None:
+    for name, wrong in judged.wrong.items():
+        untried = "no kernel has any of it" if judged.untried.get(name) == "?" else ""
+        tally.judge(f"{title}: {name}", wrong or untried)
+
+
+def told(judged: Judged, kind: str) -> str:
+    """How many were tried, and why others are not."""
+    whys: dict[str, list[str]] = {}
+    for name, why in judged.untried.items():
+        whys.setdefault(why, []).append(name)
+    tried = f"{len(judged.wrong) - len(judged.untried)} of {counted(len(judged.wrong), kind)} tried"
+    return "; ".join([tried, *(f"{why}: {', '.join(names)}" for why, names in whys.items())])
+
+
+def compare_processors(
+    pmus: list[str], kernels: list[Kernel], folder: Path, recorder: Recorder, tally: Tally
+) -> None:
+    recorded: list[Table] = []  # one unit of each table
+    for pmu in pmus:
+        unit = make_unit(pmu, folder)
+        if tables()[pmu] not in recorded:
+            recorded.append(tables()[pmu])
+            judge_lines(unit, kernels, recorder(unit), tally)
+        judged = judge_events(pmu, unit, kernels)
+        judge_all(pmu, judged, tally)
+        print(f"{pmu}: {told(judged, 'event')}", flush=True)
+        if not PRESETS.exists() or not has_presets(pmu):
+            print(f"{pmu}: no presets: {PRESETS} has none for it", flush=True)
+            continue
+        judged = judge_presets(pmu, unit, kernels)
+        judge_all(f"{pmu}, preset", judged, tally)
+        print(f"{pmu}: {told(judged, 'preset')}", flush=True)
