@@ -6,11 +6,12 @@ import re
 import unittest
 from pathlib import Path
 
+from description_words import RULES, fault
 from parts.codes import codes_of
 from parts.command import Fault
 from parts.counted_page import counted_page
 from parts.libpfm4 import Libpfm4
-from parts.processors import FOLDER, NOTHING, read_quantities, read_table, tables
+from parts.processors import FOLDER, NOTHING, Row, read_quantities, read_table, tables
 from parts.unit_of_pmu import ARCHITECTURAL
 from tests.support import ROOT, InFolder, needs_libpfm4, run_tool, some
 
@@ -131,6 +132,27 @@ class Units(InFolder):
         done = run_tool("make_unit", "nhm", "--counted")
         self.assertEqual((done.stdout, done.returncode), ("", 1))
         self.assertIn("there is no table of what is counted for the events of nhm; there are tables for amd64_fam17h_zen1", done.stderr)
+
+
+class Descriptions(unittest.TestCase):
+    def test_what_a_description_says(self) -> None:
+        """By texts of Linux's event files. One of several that is right suffices."""
+        clean = "Instruction cache hit clean line in L2."
+        for words, texts, wrong in (
+            ("l2_fetch_hits", [clean], ""),
+            ("l2_fetch_misses", [clean], "has nothing like"),
+            ("l2_load_hits", [clean], "has nothing like"),
+            ("l2_load_hits", ["Demand Data Read miss L2, no rejects"], "has miss"),
+            ("l3_load_misses", ["unknown information", "retired demand loads that missed the L3 cache"], ""),
+            ("mispredicted", ["Not taken branch instructions retired."], "has nothing like mispred"),
+            ("loads jumps", [clean], "no words are written for"),
+        ):
+            found = fault(Row("E:U", words, (), ""), texts)
+            self.assertTrue(found == "" if not wrong else wrong in found, (words, found))
+
+    def test_each_sum_has_its_words(self) -> None:
+        words = {row.words for table in tables().values() for row in table.rows.values()}
+        self.assertEqual(sorted(words - RULES.keys()), [])
 
 
 class Folder(unittest.TestCase):
