@@ -112,9 +112,47 @@ def _machine(l1d: str, l1i: str, l2: str, l3: str, dtlb: str, itlb: str) -> Mach
     return Machine({**caches, **buffers})
 
 
-# The first level of buffers, and one core's share of the last cache as the maker's manuals have them.
+KIB = 1024
+LINE, PAGE = 64, 4096
+FIRST = (32, 8)  # KiB and ways, of a first level
+
+
+def _processor(l1d: tuple[int, int], l1i: tuple[int, int], l2: tuple[int, int], l3: tuple[int, int], dtlb: tuple[int, int], itlb: tuple[int, int]) -> Machine:
+    """Caches by their KiB and ways, buffers by their pages and ways."""
+    caches = dict(zip(CACHES, (_checked(str(size), Shape(size * KIB // LINE, ways, LINE)) for size, ways in (l1d, l1i, l2, l3))))
+    buffers = dict(zip(BUFFERS, (_checked(str(pages), Shape(pages, ways, PAGE)) for pages, ways in (dtlb, itlb))))
+    return Machine({**caches, **buffers})
+
+
+def _of_cores(l1d: tuple[int, int], l2: tuple[int, int], slice_kib: int, ways: int, cores: int, itlb: tuple[int, int] = (128, 8), dtlb: tuple[int, int] = (64, 4)) -> Machine:
+    """One of Intel's: the third level has a slice for each core."""
+    return _processor(l1d, FIRST, l2, (slice_kib * cores, ways), dtlb, itlb)
+
+
+# The first level of buffers, and the last cache of a processor with a number of cores that is a power of two, since that of its sets is one here, or of AMD's complex of cores, as the makers'
+# manuals and the processors' own answers to CPUID have them (checks/machines). What can't be said here is near it: buffers of spr and zen4 are fully associative.
 MACHINES = {
-    "skl": _machine("32768,8,64", "32768,8,64", "262144,4,64", "8388608,16,64", "64,4,4096", "128,8,4096"),
-    "icl": _machine("49152,12,64", "32768,8,64", "524288,8,64", "8388608,16,64", "64,4,4096", "128,8,4096"),
-    "zen2": _machine("32768,8,64", "32768,8,64", "524288,8,64", "16777216,16,64", "64,64,4096", "64,64,4096"),
+    "snb": _of_cores(FIRST, (256, 8), 2048, 16, 4, (128, 4)),
+    "snb_ep": _of_cores(FIRST, (256, 8), 2560, 20, 8, (128, 4)),
+    "ivb": _of_cores(FIRST, (256, 8), 2048, 16, 4, (128, 4)),
+    "ivb_ep": _of_cores(FIRST, (256, 8), 2560, 20, 8, (128, 4)),
+    "hsw": _of_cores(FIRST, (256, 8), 2048, 16, 4),
+    "hsw_ep": _of_cores(FIRST, (256, 8), 2560, 20, 8),
+    "bdw": _of_cores(FIRST, (256, 8), 2048, 16, 2),
+    "bdw_ep": _of_cores(FIRST, (256, 8), 2560, 20, 8),
+    "skl": _of_cores(FIRST, (256, 4), 2048, 16, 4),
+    "skx": _of_cores(FIRST, (1024, 16), 1408, 11, 16),
+    "clx": _of_cores(FIRST, (1024, 16), 1408, 11, 16),
+    "icl": _of_cores((48, 12), (512, 8), 2048, 16, 4),
+    "icx": _of_cores((48, 12), (1280, 20), 1536, 12, 16),
+    "spr": _of_cores((48, 12), (2048, 16), 1920, 15, 16, (256, 8), (96, 48)),
+    "zen1": _processor(FIRST, (64, 4), (512, 8), (8192, 16), (64, 64), (64, 64)),
+    "zen2": _processor(FIRST, FIRST, (512, 8), (16384, 16), (64, 64), (64, 64)),
+    "zen3": _processor(FIRST, FIRST, (512, 8), (32768, 16), (64, 64), (64, 64)),
+    "zen4": _processor(FIRST, FIRST, (1024, 8), (32768, 16), (72, 36), (64, 64)),
 }
+
+
+def machine_name(pmu: str) -> str:
+    """The machine of a PMU of libpfm4."""
+    return pmu.rpartition("_")[2] if pmu.startswith("amd64_") else pmu

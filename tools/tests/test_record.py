@@ -17,7 +17,7 @@ from parts import valgrind
 from parts.codes import codes_of
 from parts.command import Fault
 from parts.counting import Counting, _changes
-from parts.machine import MACHINES, Shape, read_buffer, read_cache, read_costs, read_predictor
+from parts.machine import MACHINES, Shape, machine_name, read_buffer, read_cache, read_costs, read_predictor
 from parts.processors import tables
 from parts.ranks import of_rank
 from tests.support import ROOT, TOOLS, InFolder, all_of, needs_command, needs_libpfm4, needs_program, run_program, run_tool, some
@@ -91,6 +91,19 @@ class Words(unittest.TestCase):
     def test_every_machine_has_all_parts(self) -> None:
         for name, machine in MACHINES.items():
             self.assertEqual(set(machine.shapes), {"l1d", "l1i", "l2", "l3", "dtlb", "itlb"}, name)
+        self.assertEqual({machine_name(pmu) for pmu in tables()}, set(MACHINES))
+
+    def test_the_documents_have_every_machine(self) -> None:
+        """docs/RECORDING.md: sizes with their ways."""
+        text = (ROOT / "docs/RECORDING.md").read_text(encoding="utf-8").partition("| Machine |")[2].partition("\n\n")[0]
+        units, found = {"KiB": 1024, "MiB": 1 << 20, "pages": 1}, {}
+        for row in text.splitlines()[2:]:
+            names, *cells = row.strip("| ").split(" | ")
+            words = [cell.replace(",", "").split() for cell in cells]
+            shapes = [(int(number) * units[unit], int(ways)) for number, unit, ways in words]
+            found.update({name.strip("`"): shapes for name in names.split(", ")})
+        wanted = {name: [tuple(map(int, shape.option(part).split(",")[:2])) for part, shape in machine.shapes.items() if shape] for name, machine in MACHINES.items()}
+        self.assertEqual(found, wanted)
 
     def test_the_machine_is_told_to_the_tool_and_to_the_library(self) -> None:
         machine = MACHINES["skl"].with_shapes({"l2": None})
