@@ -32,7 +32,7 @@ def _all(pattern: str, *, but: tuple[str, ...] = ()) -> tuple[str, ...]:
 
 _SCRIPTS = "test_silent test_hints_running test_progress test_unproved test_endings.Scripts"
 PARTS = {
-    "endings": Part(_parts("command", "quiet"), "test_command test_plot test_endings"),
+    "endings": Part(_parts("command", "quiet", "started"), "test_command test_plot test_endings test_outside_names test_any_end"),
     "plot": Part(("tools/plot", *_parts("chart", "profile", "xml_text")), "test_plot test_endings.Texts test_endings.Streams"),
     "preset_lines": Part(("tools/preset_lines",), "test_preset_lines test_endings.Texts test_endings.Streams", is_pure=False),
     "preset_rows": Part(("tools/preset_rows",), "test_preset_rows test_endings.Texts", is_pure=False),

@@ -9,7 +9,7 @@ import re
 from dataclasses import dataclass
 from typing import Iterable, Iterator, Sequence
 
-from formats.files import Unread, check, read_lines
+from formats.files import Unread, opened, read_lines
 from formats.presets import Presets, name_fault, read_presets
 from formats.scripts import Call, calls_of
 from formats.units import Event, Unit, fault_of, parts_of, read_unit
@@ -97,8 +97,7 @@ def _are_of_others(streams: Sequence[str]) -> bool:
 
 
 def _is_recording(stream: str) -> bool:
-    check(stream)
-    with open(stream, "rb") as file:
+    with opened(stream) as file:
         return file.read(len(RECORDING)) == RECORDING
 
 
@@ -184,8 +183,7 @@ def _is_met(native: Native, streams: Sequence[str]) -> bool:
 
 
 def _finds(pattern: re.Pattern[bytes], stream: str) -> bool:
-    check(stream)
-    with open(stream, "rb") as file:
+    with opened(stream) as file:
         if not os.fstat(file.fileno()).st_size:
             return False
         with mmap.mmap(file.fileno(), 0, access=mmap.ACCESS_READ) as content:

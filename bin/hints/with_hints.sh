@@ -13,6 +13,7 @@ with_hints() {
     hints=$1
     name=$2
     shift 2
+    . "$hints/guard.sh"
     # The words --quiet and --strict are taken out. After -- no word is an option.
     left=$# quiet="" strict="" ended=""
     while [ "$left" != 0 ]; do
@@ -45,9 +46,9 @@ with_hints() {
     trap remove_folder EXIT
     # The shell may say on standard error that a signal ended what it has started, and nobody may read that.
     trap : PIPE
-    for signal in HUP INT QUIT TERM; do
+    for signal in $ENDING; do
         # shellcheck disable=SC2064
-        trap "caught=$signal; stop_program" "$signal"
+        [ "$signal" = 13 ] || trap "caught=$signal; stop_program" "$signal"
     done
     make_folder || run_unwatched "$@"
     end_if_caught
@@ -91,19 +92,13 @@ prepare_strict() {
     { true 9>&2; } 2>/dev/null || exec 2>/dev/null
 }
 
-# Sets `folder`. What makes it takes no signal, so that it is known here, whatever comes meanwhile to all that runs.
 make_folder() {
-    folder=$(
-        trap '' HUP INT QUIT TERM
-        made=$(mktemp -d 2>/dev/null) || exit
-        printf %s "$made"
-        exec mkfifo -- "$made/out" "$made/err" "$made/copy"
-    )
+    guarded_folder 2>/dev/null && folder=$guarded && mkfifo -- "$folder/out" "$folder/err" "$folder/copy"
 }
 
 # A signal to all that runs would end what removes it too.
 remove_folder() {
-    trap '' HUP INT QUIT TERM
+    ignore_signals
     rm -rf -- "$folder"
 }
 
@@ -134,6 +129,7 @@ run_watched() {
     wait_for "$process"
     status=$?
     process=
+    tell_guard ""
     # shellcheck disable=SC2086
     [ -z "$caught" ] || end_all $relays $finder
     # A write that fails ends the program with 5, so it does here.
@@ -146,16 +142,18 @@ run_watched() {
 }
 
 start_relay() {
-    relay "$1" "$2" &
+    eval "relay \"\$1\" \"\$2\" ${hold:+$hold>&-} &"
     relays="$relays $!"
 }
 
 # What is looked for in a copy goes to the file `told`.
 start_finder() {
     (
-        trap '' HUP INT QUIT
+        ignore_signals
+        trap - PIPE TERM
         LC_ALL=C
         export LC_ALL
+        [ -z "$hold" ] || eval "exec $hold>&-"
         exec grep -E -e "$1" <"$folder/copy" >"$folder/told" 2>/dev/null 8>&-
     ) &
     finder=$!
@@ -163,7 +161,8 @@ start_finder() {
 
 # Passes on what comes through the fifo $1, and copies it to the file $2, whatever signal a terminal sends to all. If descriptor 8 is open and a terminal, the progress line stands there up to the first byte.
 relay() {
-    trap '' HUP INT QUIT
+    ignore_signals
+    trap - PIPE TERM
     if [ -n "$ticking" ] && { [ -t 8 ]; } 2>/dev/null; then
         relay_with_line "$1" "$2"
     else
@@ -173,16 +172,14 @@ relay() {
 
 # What is started and not waited for has no standard input of its own: it comes by a descriptor that the caller does not use.
 start_program() {
-    for spare in 7 6 5 4 3 8 9; do
-        eval "{ true <&$spare; } 2>/dev/null" || break
-    done
-    if eval "{ true $spare<&0; } 2>/dev/null"; then
-        eval "{ run_with_outputs \"\$@\" <&$spare $spare<&- & } $spare<&0"
+    if find_spare && eval "{ true $spare<&0; } 2>/dev/null"; then
+        eval "{ run_with_outputs \"\$@\" <&$spare $spare<&- ${hold:+$hold>&-} & } $spare<&0"
     else
-        run_with_outputs "$@" <&- &
+        eval "run_with_outputs \"\$@\" <&- ${hold:+$hold>&-} &"
     fi
     process=$!
-    echo "$process" >"$folder/process"
+    tell_guard "$process"
+    [ -z "$ticking" ] || echo "$process" >"$folder/process"
     [ -z "$caught" ] || stop_program
 }
 
@@ -233,13 +230,7 @@ end_if_caught() {
     remove_folder
     trap - EXIT "$caught"
     kill -s "$caught" "$$"
-    # Some shells do not end by each signal.
-    case $caught in
-    HUP) exit 129 ;;
-    INT) exit 130 ;;
-    QUIT) exit 131 ;;
-    *) exit 143 ;;
-    esac
+    exit $((128 + caught)) # some shells do not end by each signal
 }
 
 # Python starts only if the program said something, or an output has a telling line or lacks one, or a value may lack its lines.

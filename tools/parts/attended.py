@@ -10,6 +10,8 @@ import signal
 import sys
 from typing import Callable, NoReturn
 
+from parts.command import tell
+
 PASSED_ON = {
     signal.SIGHUP,
     signal.SIGINT,
@@ -55,7 +57,7 @@ def _become(become: Callable[[], NoReturn], mask: set[int]) -> NoReturn:
         signal.pthread_sigmask(signal.SIG_SETMASK, mask)
         become()
     except OSError as error:
-        print(f"{error.filename}: {error.strerror}", file=sys.stderr)
+        tell(f"{error.filename}: {error.strerror}")
     finally:
         os._exit(127)
 

@@ -6,7 +6,8 @@ import re
 import subprocess
 from pathlib import Path
 
-from parts.command import Fault, temporary_folder
+from parts.command import Fault
+from parts.started import temporary_folder
 from parts.compiler import cause, run_compiler
 
 # What a probe writes for a constant: its value and its type.

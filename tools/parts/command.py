@@ -2,20 +2,27 @@
 
 from __future__ import annotations
 
+import argparse
 import io
 import os
 import signal
 import sys
-import tempfile
 from contextlib import contextmanager, suppress
 from pathlib import Path
 from types import FrameType
-from typing import Any, Callable, Iterator
+from typing import Any, Callable, Iterable, Iterator, NoReturn
+
+from formats import files
+from formats.texts import plain
 
 BY_SIGNAL = 128  # what a status adds to the number of a signal
 MOST_BYTES = 1 << 27  # of a file that is read as a whole
 LONGEST_LINE = 1 << 20  # bytes, of standard input
-ENDING_SIGNALS = (signal.SIGINT, signal.SIGTERM, signal.SIGHUP)
+# All that end a process, but for those that can't be caught, or that tell of a fault of its own.
+ENDING_SIGNALS = tuple(sorted(
+    signal.valid_signals() - {signal.SIGKILL, signal.SIGSTOP, signal.SIGTSTP, signal.SIGTTIN, signal.SIGTTOU, signal.SIGCHLD, signal.SIGCONT, signal.SIGURG, signal.SIGWINCH}
+    - {signal.SIGILL, signal.SIGTRAP, signal.SIGABRT, signal.SIGBUS, signal.SIGFPE, signal.SIGSEGV, signal.SIGSYS}
+))
 
 
 class Fault(Exception):
@@ -50,8 +57,8 @@ def _end_by_signal(number: int, frame: FrameType | None) -> None:
 
 
 def end_by_termination() -> None:
-    """From now on a signal to end, to hang up or to interrupt ends the process with a status, so that what it has started and made ends too. One that is
-    ignored stays so, and while the process ends no other one comes in between."""
+    """From now on any signal that ends the process does so with a status, so that what it has started and made ends too. One that is ignored stays so, and
+    while the process ends no other one comes in between."""
     for number in ENDING_SIGNALS:
         if signal.getsignal(number) != signal.SIG_IGN:
             signal.signal(number, _end_by_signal)
@@ -67,19 +74,6 @@ def uninterrupted() -> Iterator[None]:
         _Deferred.depth -= 1
     if _Deferred.number is not None and not _Deferred.depth:
         _end_by_signal(_Deferred.number, None)
-
-
-@contextmanager
-def temporary_folder(prefix: str) -> Iterator[Path]:
-    """A folder that is gone after the block, also if a signal ends it."""
-    folder: tempfile.TemporaryDirectory[str] | None = None
-    try:
-        with uninterrupted():
-            folder = tempfile.TemporaryDirectory(prefix=prefix)
-        yield Path(folder.name)
-    finally:
-        if folder is not None:
-            folder.cleanup()
 
 
 class _Output(io.FileIO):
@@ -141,8 +135,22 @@ def _why(error: OSError) -> str:
     return f"{os.fsdecode(error.filename)}: {reason}" if isinstance(error.filename, (str, bytes)) and error.filename else reason
 
 
-def _tell(tool: str, what: object) -> None:
-    print(f"{tool}: {what}", file=sys.stderr)
+def tell(what: object, tool: str | None = None) -> None:
+    """Says something on one line of standard error, whatever stands in the names in it."""
+    print(f"{tool or own_name()}: {plain(str(what))}", file=sys.stderr)
+
+
+def pass_on(lines: Iterable[str]) -> None:
+    """Passes on what another program said on standard error."""
+    for line in lines:
+        print(plain(line), file=sys.stderr)
+
+
+class Parser(argparse.ArgumentParser):
+    """Words of a tool. What is wrong with them is one line, whatever they are."""
+
+    def error(self, message: str) -> NoReturn:
+        super().error(plain(message))
 
 
 def _status_of(tool: str, work: Callable[[], None]) -> int:
@@ -150,7 +158,7 @@ def _status_of(tool: str, work: Callable[[], None]) -> int:
     try:
         work()
     except Fault as fault:
-        _tell(tool, fault)
+        tell(fault, tool)
         return fault.status
     except SystemExit as end:
         return end.code if isinstance(end.code, int) else int(end.code is not None)
@@ -159,13 +167,13 @@ def _status_of(tool: str, work: Callable[[], None]) -> int:
     except BrokenPipeError:
         return 1  # the reader has enough
     except OSError as error:
-        _tell(tool, _why(error))
+        tell(_why(error), tool)
         return 1
     except RecursionError:
-        _tell(tool, "the input is nested too deep")
+        tell("the input is nested too deep", tool)
         return 1
     except MemoryError:
-        _tell(tool, "out of memory")
+        tell("out of memory", tool)
         return 1
     return 0
 
@@ -182,7 +190,7 @@ def end_with(tool: str, work: Callable[[], None]) -> None:
         _drop_output()
     except OSError as error:
         if status == 0:
-            _tell(tool, _why(error))
+            tell(_why(error), tool)
         status = status or 1
         _drop_output()
     sys.exit(status)
@@ -219,8 +227,18 @@ class Progress:
             self.shown = False
 
 
+def read_found(name: str | os.PathLike[str], most: int = MOST_BYTES) -> bytes:
+    """What a file has that a folder or another file names, or the fault that says why it is not read: it can't be, it is not regular, or it has more bytes than these."""
+    try:
+        return files.content(name, most)
+    except files.Unread as unread:
+        raise Fault(str(unread)) from None
+    except OSError as error:
+        raise Fault(f"{os.fspath(name)}: {error.strerror}") from None
+
+
 def read_bytes(name: str, most: int = MOST_BYTES) -> bytes:
-    """What a file has, or the fault that says why it is not read: it can't be, or it has more bytes than these."""
+    """The same for a file that a person names, which may be a pipe."""
     try:
         with open(name, "rb") as file:
             content = file.read(most + 1)

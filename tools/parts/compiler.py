@@ -8,6 +8,7 @@ import subprocess
 from typing import Any, Sequence
 
 from parts.command import Fault, uninterrupted
+from parts.started import ends_with_parent
 
 ENDING_SECONDS = 2
 
@@ -17,13 +18,14 @@ def compiler() -> list[str]:
     return os.environ.get("CC", "").split() or ["cc"]
 
 
-def run_group(command: Sequence[str], text: str = "", **how: Any) -> subprocess.CompletedProcess[str]:
-    """A command with this standard input, and what it says. What it has started ends with it, whatever ends it. `how` goes to subprocess.Popen."""
+def run_group(command: Sequence[str], number: int = signal.SIGTERM, text: str = "", **how: Any) -> subprocess.CompletedProcess[str]:
+    """A command with this standard input, and what it says. What it has started ends with it, whatever ends it, and the signal ends it if this process is killed.
+    `how` goes to subprocess.Popen."""
     child: subprocess.Popen[str] | None = None
     try:
         with uninterrupted():
             child = subprocess.Popen(command, stdin=subprocess.PIPE, stdout=subprocess.PIPE, stderr=subprocess.PIPE, text=True, encoding="utf-8", errors="replace",
-                                     start_new_session=True, **how)
+                                     start_new_session=True, preexec_fn=ends_with_parent(number), **how)
         out, err = child.communicate(text)
     except BaseException:
         if child is not None:
@@ -36,7 +38,7 @@ def run_compiler(*words: str, text: str = "") -> subprocess.CompletedProcess[str
     """The compiler with these words and this standard input, and what it says. A fault if it can't be run."""
     command = [*compiler(), *words]
     try:
-        return run_group(command, text)
+        return run_group(command, text=text)
     except OSError as error:
         raise Fault(f"no C compiler: {command[0]}: {error.strerror}") from None
 

@@ -7,6 +7,7 @@ import shlex
 from dataclasses import dataclass
 from typing import Sequence
 
+from formats.texts import plain
 from parts.whole_counts import Counts, WholeCounts
 
 ACCESSES = ("PAPI_LD_INS", "PAPI_SR_INS")
@@ -86,23 +87,18 @@ def _columns(title: str, events: Sequence[str], rows: Sequence[tuple[str, Counts
     return [f" {title.ljust(first)}  {head}", *(f" {line}" for line in lines)]
 
 
-def shown(text: str) -> str:
-    """A name on a line of a terminal, whatever is in it."""
-    return "".join(letter if letter.isprintable() else repr(letter)[1:-1] for letter in text)
-
-
 def table(counts: WholeCounts) -> str:
-    inside = f" in calls of {', '.join(map(shown, counts.functions))}" if counts.functions else ""
+    inside = f" in calls of {', '.join(map(plain, counts.functions))}" if counts.functions else ""
     lines = [
         "",
-        f" Counts of {shown(shlex.join(counts.command))}{inside}:",
+        f" Counts of {plain(shlex.join(counts.command))}{inside}:",
         "",
         *_lines(counts.events, counts.total),
         "",
     ]
     if len(counts.processes) > 1:
         rows = [
-            (f"{process.number} {shown(process.program)}", process.total)
+            (f"{process.number} {plain(process.program)}", process.total)
             for process in counts.processes
         ]
         lines += [*_columns("process", counts.events, [*rows, ("all", counts.total)]), ""]

@@ -6,19 +6,20 @@ from __future__ import annotations
 import mmap
 import os
 import shutil
-import sys
 from dataclasses import dataclass, replace
 from functools import partial
 from pathlib import Path
 from typing import NoReturn
 
+from formats.files import opened
 from parts import valgrind
 from parts.attended import attend, end_as
 from parts.codes import codes_of, name_rowless
-from parts.command import Fault, own_name, temporary_folder
+from parts.command import Fault, tell
 from parts.elf_file import libraries_of
 from parts.machine import Machine
-from parts.whole import Outputs, Plan, Run, Whole, plan, tell
+from parts.started import temporary_folder
+from parts.whole import Outputs, Plan, Run, Whole, plan, tell_counts
 
 FOLDER = Path(__file__).resolve().parent.parent.parent
 EXAMPLES = FOLDER / "examples"
@@ -85,9 +86,9 @@ def _status_of(
         status = attend(partial(_become, counting, program, words))
         run = Run((counting.program, *counting.arguments), folder, status)
         try:
-            tell(whole, run, planned, outputs, environment, counting.machine)
+            tell_counts(whole, run, planned, outputs, environment, counting.machine)
         except Fault as fault:
-            print(f"{own_name()}: {fault}", file=sys.stderr)
+            tell(fault)
             return status or fault.status
     return status
 
@@ -205,5 +206,5 @@ def _check_library(program: str, environment: dict[str, str]) -> bool:
 
 
 def _has_text(path: Path, text: bytes) -> bool:
-    with open(path, "rb") as file, mmap.mmap(file.fileno(), 0, access=mmap.ACCESS_READ) as content:
+    with opened(path) as file, mmap.mmap(file.fileno(), 0, access=mmap.ACCESS_READ) as content:
         return content.find(text) >= 0

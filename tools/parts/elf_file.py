@@ -9,14 +9,25 @@ from dataclasses import dataclass, field
 from pathlib import Path
 from typing import BinaryIO, Iterator, Mapping
 
-# The head: its mark, the machine, where the table of its parts is, the size of a row and how many
-# there are. A row: its kind, its place in the file, its address, its size.
+from formats.files import Unread, opened
+
+# The head: its mark, its kind, the machine, where it begins, where the tables of its parts and of its
+# sections are, the size of a row of each and how many there are. A row of a part: its kind, its place
+# in the file, its address, its size; of a section: its kind, its flags, its place, its size, the
+# section of its names. A symbol: its name's place, its kind, its section, its address, its size.
 MARK = b"\x7fELF\x02\x01"
-HEAD = struct.Struct("<6s12xH12xQ14xHH4x")
+HEAD = struct.Struct("<6s10xHH4xQQQ6xHHHH2x")
 PART = struct.Struct("<I4xQQ8xQ")
+SECTION = struct.Struct("<4xIQ8xQQI20x")
+SYMBOL = struct.Struct("<IBxHQQ")
 X86_64 = 62
+SHARED_OBJECT = 3  # loaded anywhere, its addresses count from 0
+SYMBOLS, EXECUTED = 2, 4  # a kind of section, and a flag
+OF_FUNCTIONS = (0, 2, 10)  # kinds of symbols: none is said, a function, one that is chosen when the program is loaded
 LOADED, DYNAMIC, LOADER = 1, 2, 3
+MOST_PLACE = (1 << 63) - 1  # in a file
 MOST_BYTES = 1 << 20  # of a part that is read
+MOST_SYMBOL_BYTES = 1 << 28  # of a table of symbols, and of their names
 NEEDED, STRINGS, STRINGS_SIZE, OLD_PATH, PATH = 1, 5, 10, 15, 29
 ENTRY = struct.Struct("<qQ")
 USUAL_FOLDERS = (
@@ -34,6 +45,37 @@ CACHE = Path("/etc/ld.so.cache")
 CACHE_MARK = b"glibc-ld.so.cache1.1"
 CACHE_HEAD = struct.Struct("<20sI24x")
 CACHE_ROW = struct.Struct("<IIIIQ")
+
+
+@dataclass(frozen=True)
+class ElfHead:
+    """The head of a file for a machine of 64 bits."""
+
+    kind: int
+    machine: int
+    entry: int
+    parts_at: int
+    sections_at: int
+    part_size: int
+    parts: int
+    section_size: int
+    sections: int
+
+    @classmethod
+    def read(cls, file: BinaryIO) -> ElfHead | None:
+        content = file.read(HEAD.size)
+        if len(content) < HEAD.size or not content.startswith(MARK):
+            return None
+        return cls(*HEAD.unpack(content)[1:])
+
+
+@dataclass(frozen=True)
+class Function:
+    """A function of a program file: its address there, and how many bytes it has."""
+
+    name: str
+    address: int
+    size: int
 
 
 @dataclass(frozen=True)
@@ -55,20 +97,20 @@ class _Parts:
 def read_elf(path: Path) -> ElfFile | None:
     """What a file says, or None if it is no program or library for x86-64."""
     try:
-        with open(path, "rb") as file:
+        with opened(path) as file:
             return _read(path, file)
-    except (OSError, struct.error, UnicodeError):
+    except (OSError, Unread, struct.error, UnicodeError):
         return None
 
 
 def _read(path: Path, file: BinaryIO) -> ElfFile | None:
-    mark, machine, at, size, count = HEAD.unpack(file.read(HEAD.size))
-    if mark != MARK or machine != X86_64 or size < PART.size:
+    head = ElfHead.read(file)
+    if head is None or head.machine != X86_64 or head.part_size < PART.size:
         return None
     parts = _Parts()
-    for number in range(count):
-        file.seek(at + number * size)
-        kind, place, address, length = PART.unpack(file.read(PART.size))
+    for number in range(head.parts):
+        row = _content(file, head.parts_at + number * head.part_size, PART.size)
+        kind, place, address, length = PART.unpack(row)
         if kind == LOADED:
             parts.segments.append((place, address, length))
         elif kind in (DYNAMIC, LOADER):
@@ -80,9 +122,30 @@ def _read(path: Path, file: BinaryIO) -> ElfFile | None:
     return _with_names(path, file, parts)
 
 
-def _content(file: BinaryIO, place: int, length: int) -> bytes:
+def _content(file: BinaryIO, place: int, length: int, most: int = MOST_BYTES) -> bytes:
+    if place > MOST_PLACE:
+        return b""
     file.seek(place)
-    return file.read(min(length, MOST_BYTES))
+    return file.read(min(length, most))
+
+
+def symbols_of(file: BinaryIO, head: ElfHead) -> Iterator[Function]:
+    """The functions among a file's symbols, whatever bytes their names have."""
+    size = max(head.section_size, SECTION.size)
+    table = _content(file, head.sections_at, head.sections * size)
+    sections: list[tuple[int, int, int, int, int]] = [
+        SECTION.unpack_from(table, at) for at in range(0, len(table) - SECTION.size + 1, size)
+    ]
+    for kind, _, place, length, link in sections:
+        if kind == SYMBOLS and link < len(sections):
+            content = _content(file, place, length, MOST_SYMBOL_BYTES)
+            names = _content(file, *sections[link][2:4], MOST_SYMBOL_BYTES)
+            for row in SYMBOL.iter_unpack(content[: len(content) // SYMBOL.size * SYMBOL.size]):
+                name_at, info, section, address, bytes_of_it = row
+                is_code = 0 < section < len(sections) and sections[section][1] & EXECUTED
+                if is_code and info & 15 in OF_FUNCTIONS and bytes_of_it:
+                    end = max(names.find(b"\0", name_at), name_at)
+                    yield Function(os.fsdecode(names[name_at:end]), address, bytes_of_it)
 
 
 def _with_names(path: Path, file: BinaryIO, parts: _Parts) -> ElfFile:

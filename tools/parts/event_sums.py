@@ -8,7 +8,8 @@ from dataclasses import dataclass, field
 from pathlib import Path
 from typing import Container, Mapping, NoReturn, Sequence
 
-from parts.command import Fault, temporary_folder
+from parts.command import Fault
+from parts.started import temporary_folder
 from parts.kinds import Kind
 from parts.papi_program import ask_program
 

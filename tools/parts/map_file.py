@@ -7,7 +7,7 @@ from dataclasses import dataclass
 from typing import Iterable
 
 from formats.rows import MOST_BUCKETS, MOST_WIDTH
-from parts.symbols import Function
+from parts.elf_file import Function
 
 MOST_RANGES = 1024
 LONGEST_NAME = 64

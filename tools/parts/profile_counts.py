@@ -6,8 +6,9 @@ from collections import Counter
 from dataclasses import dataclass
 from typing import Any, Callable, Mapping, Sequence
 
+from formats.texts import plain
 from parts.code_profile import CodeProfile, FunctionKey
-from parts.count_table import NAME_WIDTH, shown
+from parts.count_table import NAME_WIDTH
 from parts.event_sums import Sum, added_up
 from parts.whole_counts import Counts
 
@@ -198,7 +199,7 @@ def profile_table(profile: ProfileCounts, total: Counts) -> str:
             f"{each.own[event]:,}".rjust(width) for event, width in zip(events[1:], widths[1:])
         ]
         lines.append(
-            f" {'  '.join([*cells, f'{shown(each.name):<{NAME_WIDTH}}'])}  {shown(each.place())}"
+            f" {'  '.join([*cells, f'{plain(each.name):<{NAME_WIDTH}}'])}  {plain(each.place())}"
         )
     if len(profile.functions) > len(listed):
         lines.append(f" and {len(profile.functions) - len(listed):,} more functions")

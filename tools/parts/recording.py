@@ -15,6 +15,7 @@ from parts import valgrind
 from parts.codes import RECORDED, Codes
 from parts.command import Fault, Progress, uninterrupted
 from parts.machine import Machine
+from parts.started import ends_with_parent
 from parts.symbols import entry_of, read_functions
 
 MOST_BYTES = 67_108_864
@@ -49,7 +50,6 @@ class Recorded:
 
     totals: dict[str, int] = field(default_factory=dict)
     calls: int = 0
-    papi: str | None = None  # the libpapi.so that the program loaded
     is_from_met: bool = True
     full_at: int | None = None
     second_thread: bool = False
@@ -131,7 +131,7 @@ def _start(wanted: Wanted, words: list[str], path: str, stream: str | None, repo
         words = [*words, *([f"--streams={stream}"] if each else [f"--stream={file}", f"--threads={'first' if wanted.first_thread else 'one'}"])]
         return subprocess.Popen(
             valgrind.command(["--log-file=/dev/null", *words], path, wanted.arguments), pass_fds=[report] + [file] * (not each), stdin=wanted.source, stdout=wanted.output, stderr=wanted.errors,
-            env=environment,
+            env=environment, preexec_fn=ends_with_parent(signal.SIGKILL),
         )
     finally:
         os.close(file)
@@ -160,8 +160,6 @@ def take_line(recorded: Recorded, progress: Progress, line: str) -> None:
         recorded.second_thread = True
     elif word == "exec":
         recorded.replaced_by = rest or None
-    elif word == "papi":
-        recorded.papi = rest
     elif word == "failed":
         recorded.failure = rest
     elif word == "refused":

@@ -5,7 +5,7 @@ from __future__ import annotations
 import argparse
 from typing import Any, Callable
 
-from parts.command import Fault
+from parts.command import Fault, Parser
 from parts.machine import BUFFERS, CACHES, COSTS, MACHINES, Machine, REP, read_buffer, read_cache, read_costs, read_predictor
 from parts.whole_words import add_whole
 
@@ -33,7 +33,7 @@ def _window(text: str) -> int:
 
 
 def record_words(name: str) -> argparse.ArgumentParser:
-    parser = argparse.ArgumentParser(
+    parser = Parser(
         prog=name,
         description="Runs a program under valgrind and writes a stream of what it does: instructions, loads, stores, misses of caches and "
         "translation buffers, branches, floating-point operations and cycles, each with its program counter. examples/recorded.unit has their "
@@ -52,7 +52,7 @@ def record_words(name: str) -> argparse.ArgumentParser:
 
 
 def count_words(name: str) -> argparse.ArgumentParser:
-    parser = argparse.ArgumentParser(
+    parser = Parser(
         prog=name,
         description="Runs a program under a tool of Valgrind, which counts what it does, from its "
         "entry to its end, and prints a table of it. If the program makes PAPI's calls, each call "

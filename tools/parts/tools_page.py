@@ -25,7 +25,7 @@ of what was asked for, or if a native event of a set that ran counts 0 because n
 hints, nor are there any with `KISTALUB_HINTS=0`.
 
 If standard error is a terminal, the scripts show there how far a run of more than half a second has come: the seconds, and how much of the streams was read. The line is gone before
-the output comes. With the word `--quiet` a script adds nothing, neither hints nor this line. A signal that ends the script ends the program.
+the output comes. With the word `--quiet` a script adds nothing, neither hints nor this line. Whatever ends the script ends the program, and no folder of it is left.
 
 With the word `--strict` a script ends with 1 in place of 0 if a call of a script was refused, or if a native event counted 0 because no line of the streams has its code. Nothing that is written
 changes. It needs Python. To know which calls of its script were refused, `papi_profil --strict` runs the script once more.

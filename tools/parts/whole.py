@@ -10,12 +10,13 @@ from dataclasses import dataclass, replace
 from pathlib import Path
 from typing import IO, Mapping, Sequence
 
-from parts.command import Fault, own_name
+from formats.texts import plain
+from parts.command import Fault, tell
 from parts.callgrind_file import callgrind_text
 from parts.code_profile import CodeProfile
 from parts.codes import codes_of
 from parts.count_files import as_csv, as_json
-from parts.count_table import shown, table
+from parts.count_table import table
 from parts.event_sums import Files, Sum, sums_of, values_of
 from parts.kinds import Kind, kinds_with, mask_of, reduced
 from parts.machine import Machine
@@ -172,7 +173,7 @@ def _what_is_missing(program: str, first: Process | None, status: int) -> str | 
     if not first.has_ended and status < 0:
         return f"{program} was killed (signal {-status}): what it did is not known"
     if not first.has_ended:
-        last = shown(first.program)
+        last = plain(first.program)
         return f"{program} became a program that can't be counted, after {last}"
     if not first.total():
         return f"{program} ended before its entry: nothing was counted"
@@ -188,7 +189,7 @@ class Run:
     status: int
 
 
-def tell(
+def tell_counts(
     whole: Whole,
     run: Run,
     planned: Plan | None,
@@ -250,7 +251,7 @@ def _write(
     if counts.uncounted_children:
         number = counts.uncounted_children
         processes = "1 child process" if number == 1 else f"{number:,} child processes"
-        sys.stderr.write(f"{own_name()}: {processes} not counted (--children counts them too)\n")
+        tell(f"{processes} not counted (--children counts them too)")
     if "json" in outputs.files:
         further = as_further_json(profile) if profile else {}
         outputs.write("json", as_json(counts, named, machine, further))

@@ -174,9 +174,9 @@ class Texts(Ending):
         self.assert_told(self.shell("$tools/plot", text=cases[0].encode()), 1, "plot: standard input: line 2: not a line of papi_profil's output\n")
 
     def test_names_that_are_no_text(self) -> None:
-        self.assert_told(self.shell('$tools/make_map "$1"', b"no\xff"), 1, "make_map: 'no\\udcff': No such file\n")
+        self.assert_told(self.shell('$tools/make_map "$1"', b"no\xff"), 1, "make_map: no\\xff: No such file or directory\n")
         self.assert_told(self.shell('$tools/make_map --stream "$1" /bin/sh', b"no\xff"), 1, "make_map: /bin/sh has no functions among its symbols (is it stripped?)\n")
-        self.assert_told(self.shell('$tools/preset_lines "$1"', b"no\xff"), 1, "preset_lines: no\\udcff: No such file or directory\n")
+        self.assert_told(self.shell('$tools/preset_lines "$1"', b"no\xff"), 1, "preset_lines: no\\xff: No such file or directory\n")
 
     def test_lines_that_are_no_text_stay(self) -> None:
         self.write("unit", "COMPONENT,cpu,lab\n")

@@ -7,9 +7,10 @@ import unittest
 
 from formats.rows import MOST_BUCKETS
 from parts.command import Fault
+from parts.elf_file import Function
 from parts.map_file import ADDRESSES, MOST_RANGES, map_names, ranges_of
 from parts.stream_head import MOST_LINES, read_base
-from parts.symbols import Function, entry_of, is_loaded_anywhere, read_functions
+from parts.symbols import entry_of, is_loaded_anywhere, read_functions
 from tests.support import TOOLS, InFolder, all_of, needs_command, run_tool
 
 
@@ -21,7 +22,7 @@ class Heads(InFolder):
     def test_where_a_program_of_this_kind_of_processor_begins(self) -> None:
         """The head of an ELF file: its kind of program at 16, its machine at 18, and where it begins at 24."""
         for bits, machine, is_known in ((2, 62, True), (1, 62, False), (2, 183, False)):
-            head = b"\x7fELF" + bytes([bits, 1, 1, *[0] * 9]) + b"".join(number.to_bytes(size, "little") for number, size in ((2, 2), (machine, 2), (1, 4), (0x401020, 8)))
+            head = b"\x7fELF" + bytes([bits, 1, 1, *[0] * 9]) + b"".join(number.to_bytes(size, "little") for number, size in ((2, 2), (machine, 2), (1, 4), (0x401020, 8), (0, 32)))
             program = self.folder / "program"
             program.write_bytes(head)
             if is_known:
@@ -129,7 +130,7 @@ class RealProgram(InFolder):
         self.assertEqual((first, len(rows_made)), (f"# left out: 6 of {MOST_RANGES + 6:,} functions", MOST_RANGES))
 
     def test_what_is_no_program(self) -> None:
-        head, rest = b"\x7fELF" + bytes(12), bytes(46)
+        head, rest = b"\x7fELF\x02\x01" + bytes(10), bytes(46)
         for content, is_any in ((head + b"\3\0" + rest, True), (head + b"\2\0" + rest, False), (head + b"\3", None), (b"words" * 9, None), (b"", None)):
             (self.folder / "some").write_bytes(content)
             if is_any is None:
@@ -141,7 +142,7 @@ class RealProgram(InFolder):
             is_loaded_anywhere(str(self.folder / "none"))
 
     def test_refusals(self) -> None:
-        for program, cause in ((str(self.folder / "absent"), "No such file"), (self.write("text", "words"), "file format not recognized")):
+        for program, cause in ((str(self.folder / "absent"), "No such file"), (self.write("text", "words"), "not a program file")):
             done = run_tool("make_map", program)
             self.assertEqual((done.returncode, done.stdout), (1, ""))
             self.assertIn(cause, done.stderr)

@@ -93,7 +93,6 @@ def installed(place: Path) -> Path:
 
 @needs_command("valgrind", "valgrind")
 @needs_command("cc", "a C compiler")
-@needs_command("nm", "binutils")
 class Recorded(Places):
     def setUp(self) -> None:
         super().setUp()

@@ -161,7 +161,6 @@ class Words(unittest.TestCase):
 
 
 @needs_command("valgrind", "valgrind")
-@needs_command("nm", "binutils")
 @needs_command("cc", "a C compiler")
 class RealProgram(InFolder):
     def setUp(self) -> None:
@@ -322,10 +321,8 @@ class Missing(InFolder):
         self.assertRegex(done.stderr, r"(?m)^record: .*/head can't be run under valgrind \(status -?\d+\)$")
 
     def test_what_is_not_installed_is_named(self) -> None:
-        """The tool of Valgrind is built in the last case, so that no compiler is asked for."""
-        valgrind.tool()
         version = f'#!/bin/sh\necho {subprocess.run(["valgrind", "--version"], capture_output=True, text=True).stdout}'
-        for there, kept, words, cause in (((), "cache", (), "valgrind"), (("uname", "sh"), "cache", (), "cc"), ((), None, ("--from", "main"), "nm")):
+        for there, cause in (((), "valgrind"), (("uname", "sh"), "cc")):
             folder = self.folder / f"without-{cause}"
             folder.mkdir()
             for command in there:
@@ -333,10 +330,8 @@ class Missing(InFolder):
             if cause != "valgrind":
                 (folder / "valgrind").write_text(version, encoding="ascii")
                 (folder / "valgrind").chmod(0o755)
-            environment = {**os.environ, "PATH": str(folder)}
-            if kept:
-                environment["XDG_CACHE_HOME"] = str(folder / kept)
-            line = [sys.executable, str(TOOLS / "record"), "-o", str(folder / "stream"), *words, "/bin/true"]
+            environment = {**os.environ, "PATH": str(folder), "XDG_CACHE_HOME": str(folder / "cache")}
+            line = [sys.executable, str(TOOLS / "record"), "-o", str(folder / "stream"), "/bin/true"]
             done = subprocess.run(line, env=environment, capture_output=True, text=True)
             self.assertEqual(done.returncode, 1)
             self.assertRegex(done.stderr, rf"^record: {cause} is not installed \(apt-get install \w+\)\n$")

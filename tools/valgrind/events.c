@@ -116,13 +116,12 @@ static void child_begins(ThreadId tid) {
 
 static Bool is_exec(UInt number) { return number == __NR_execve || number == __NR_execveat; }
 
-/* The program's text at an address, without what would end a line: False if it is not all there. */
+/* The program's text at an address: False if it is not all there. */
 static Bool read_text(Addr from, HChar *to, SizeT size) {
     for (SizeT i = 0; i < size; i++, from++) {
         if ((!i || !(from & (VKI_PAGE_SIZE - 1))) && !VG_(am_is_valid_for_client)(from, 1, VKI_PROT_READ)) return False;
-        HChar byte = *(const HChar *)from;
-        to[i] = byte > 0 && byte < ' ' ? '?' : byte;
-        if (!byte) return True;
+        to[i] = *(const HChar *)from;
+        if (!to[i]) return True;
     }
     return False;
 }
@@ -194,15 +193,6 @@ void instruction_is_refused(Addr pc) {
     else VG_(printf)("papi: %s\n", line);
 }
 
-/* The PAPI library that a program takes may be another one than ours. */
-void memory_mapped(Addr first, SizeT size, Bool reads, Bool writes, Bool runs, ULong handle) {
-    (void)size, (void)reads, (void)writes, (void)handle;
-    if (!runs || words.report < 0) return;
-    const NSegment *segment = VG_(am_find_nsegment)(first);
-    const HChar *path = segment ? VG_(am_get_filename)(segment) : NULL, *name = path ? VG_(strrchr)(path, '/') : NULL;
-    if (name && !VG_(strncmp)(name, "/libpapi.so", VG_(strlen)("/libpapi.so"))) report("papi %s", path);
-}
-
 /* -- the end -- */
 
 static void tell_totals(void) {
@@ -213,7 +203,8 @@ static void tell_totals(void) {
         all_counts(counts);
         for (UInt kind = LOCKED; kind < ALL_KINDS; kind++) report("total %s %llu", kind_names[kind], counts[kind]);
     }
-    report("calls %llu\nfrom %d", calls_made(), counting_has_begun());
+    report("calls %llu", calls_made());
+    report("from %d", counting_has_begun());
 }
 
 void events_begin(void) { VG_(atfork)(totals_before_fork, child_is_made, child_begins); }

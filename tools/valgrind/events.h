@@ -19,6 +19,5 @@ void program_goes_on(ThreadId tid, ULong blocks);
 void signal_comes(ThreadId tid, Int number, Bool is_on_other_stack);
 /* Valgrind can't run this instruction, and the program gets a signal. */
 void instruction_is_refused(Addr pc);
-void memory_mapped(Addr first, SizeT size, Bool reads, Bool writes, Bool runs, ULong handle);
 
 #endif

@@ -45,7 +45,6 @@ static void begin_words(void) {
     VG_(track_pre_thread_ll_exit)(thread_ends);
     VG_(track_start_client_code)(program_goes_on);
     VG_(track_pre_deliver_signal)(signal_comes);
-    VG_(track_new_mem_mmap)(memory_mapped);
     VG_(clo_show_below_main) = True; /* the names of functions are their own */
     VG_(clo_vex_control).guest_chase = False;    /* else a block may be run before it is known to be reached */
     VG_(clo_vex_control).iropt_unroll_thresh = 0; /* else an instruction may stand twice in a block */

@@ -44,6 +44,7 @@ static void write_all(Int file, const HChar *text, UInt length) {
     }
 }
 
+/* One line, whatever stands in the names in it. */
 void report(const HChar *format, ...) {
     HChar line[LONGEST_NAME];
     va_list arguments;
@@ -52,6 +53,8 @@ void report(const HChar *format, ...) {
     UInt length = VG_(vsnprintf)(line, sizeof line - 1, format, arguments);
     va_end(arguments);
     if (length > sizeof line - 2) length = sizeof line - 2;
+    for (UInt i = 0; i < length; i++)
+        if (line[i] > 0 && line[i] < ' ') line[i] = '?';
     line[length++] = '\n';
     VG_(write)(reports, line, (Int)length);
 }

@@ -4,7 +4,7 @@ from __future__ import annotations
 
 import json
 from dataclasses import dataclass
-from typing import Any, NoReturn
+from typing import Any, Callable, NoReturn
 
 from formats.texts import shown
 from parts.command import MOST_BYTES, Fault, read_bytes
@@ -82,10 +82,12 @@ def _no_number(text: str) -> NoReturn:
     raise ValueError(f"{text} is no number")
 
 
-def read_json(file: str, most: int = MOST_BYTES) -> tuple[Place, int]:
+def read_json(
+    file: str, most: int = MOST_BYTES, read: Callable[[str, int], bytes] = read_bytes
+) -> tuple[Place, int]:
     """What a file says, and how many bytes it has."""
     try:
-        content = read_bytes(file, most)
+        content = read(file, most)
         value = json.loads(
             content.decode("utf-8"),
             object_pairs_hook=_object,

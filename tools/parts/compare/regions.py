@@ -4,11 +4,10 @@ from __future__ import annotations
 
 import os
 import re
-import stat
 from collections import Counter
 from dataclasses import dataclass
 
-from parts.command import MOST_BYTES
+from parts.command import MOST_BYTES, read_found
 from parts.compare.reading import MOST_DIGITS, Place, read_json
 from parts.compare.sides import WHOLE, Counts, Side, traits, unfit
 
@@ -58,11 +57,8 @@ def rank_files(folder: str) -> list[str]:
             if (rank := RANK.fullmatch(name))
         )
         files = [os.path.join(folder, name) for *_, name in found]
-        odd = [file for file in files if not stat.S_ISREG(os.stat(file).st_mode)]
     except OSError as error:
         raise unfit(f"{folder}: {error.strerror}") from None
-    if odd:
-        raise unfit(f"{odd[0]}: not a regular file")
     if not files or len(files) > MOST_RANKS:
         raise unfit(f"{folder}: {f'over {MOST_RANKS:,} files' if files else 'no file'} rank_N.json")
     return files
@@ -71,7 +67,7 @@ def rank_files(folder: str) -> list[str]:
 def read_folder(folder: str) -> Side:
     room, ranks = MOST_BYTES, []
     for file in rank_files(folder):
-        place, size = read_json(file, room)
+        place, size = read_json(file, room, read_found)
         room -= size
         ranks.append(_rank(place))
         if (ranks[0].events, ranks[0].cpu) != (ranks[-1].events, ranks[-1].cpu):

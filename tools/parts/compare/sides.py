@@ -5,7 +5,6 @@ from __future__ import annotations
 from dataclasses import dataclass
 from typing import Mapping
 
-from formats.texts import plain
 from parts.command import Fault
 
 APART = 2  # the status where two files can't be compared
@@ -17,7 +16,7 @@ Rows = Mapping[str, Counts]  # by the name of a function or a region
 
 def unfit(text: str) -> Fault:
     """The fault of files that can't be compared."""
-    return Fault(plain(text), APART)
+    return Fault(text, APART)
 
 
 @dataclass(frozen=True)

@@ -5,7 +5,7 @@ from __future__ import annotations
 import argparse
 import sys
 
-from formats.texts import plain
+from parts.command import Parser, tell
 from parts.compare.comparison import LEVELS, compare, read_side
 from parts.compare.limits import read_limit
 from parts.compare.output import as_csv, as_json, markdown, table
@@ -21,7 +21,7 @@ PRINTED = {
 
 
 def compare_words(name: str) -> argparse.ArgumentParser:
-    parser = argparse.ArgumentParser(
+    parser = Parser(
         prog=name,
         description="Compares the counts of two runs: files of tools/count --json, or what "
         "PAPI_hl_region_begin and PAPI_hl_region_end leave, a file or a folder papi_hl_output with "
@@ -63,6 +63,7 @@ def work(words: argparse.Namespace, name: str) -> None:
     )
     sys.stdout.write(FORMS.get(words.form, table)(comparison))
     if words.form == "csv":
-        sys.stderr.write("".join(f"{name}: {plain(note)}\n" for note in comparison.notes))
+        for note in comparison.notes:
+            tell(note, name)
     if comparison.over:
         sys.exit(OVER)

@@ -5,14 +5,13 @@ from __future__ import annotations
 import os
 import re
 import subprocess
-import sys
-import tempfile
 from dataclasses import dataclass
 from pathlib import Path
 from typing import Iterable, Mapping, Sequence
 
 from formats.files import Unread, read_lines
-from parts.command import Fault, uninterrupted
+from parts.command import Fault, pass_on, uninterrupted
+from parts.started import ends_with_parent, temporary_folder
 
 ROOT = Path(__file__).resolve().parents[3]
 DONE, SAYS_NO, REFUSED, READ_FAULT = range(4)
@@ -49,7 +48,7 @@ def _answer_of(command: Sequence[str], environment: Mapping[str, str], to: int |
     child: subprocess.Popen[bytes] | None = None
     try:
         with uninterrupted():
-            child = subprocess.Popen(command, stdin=subprocess.DEVNULL, stdout=subprocess.PIPE, stderr=to, env=environment)
+            child = subprocess.Popen(command, stdin=subprocess.DEVNULL, stdout=subprocess.PIPE, stderr=to, env=environment, preexec_fn=ends_with_parent())
         out, errors = child.communicate()
     except BaseException:
         if child is not None:
@@ -79,8 +78,8 @@ class Tools:
 
     def __init__(self, tables: Tables):
         self.tables = tables
-        with uninterrupted():
-            self._folder = tempfile.TemporaryDirectory(prefix="report.")
+        self._made = temporary_folder("report.")
+        self._folder = self._made.__enter__()
         self._natives: dict[str, tuple[str, ...]] = {}
         self._presets: set[str] = set()
         self._counters: dict[str, tuple[str, ...]] = {}
@@ -91,19 +90,21 @@ class Tools:
         return self
 
     def __exit__(self, *error: object) -> None:
-        self._folder.cleanup()
+        self._made.__exit__(None, None, None)
 
     def ask(self, tool: str, options: Sequence[str] = (), words: Sequence[str] = (), hints: bool = False) -> Answer:
         """What a tool answers: its lines on both outputs, and its status. A refusal without an output is a fault."""
         command = [str(ROOT / "bin" / tool), *self.tables.words(tool != "papi_native_avail"), *options, *(["--", *words] if words else [])]
         answer = _answer_of(command, {**os.environ, "KISTALUB_HINTS": "1" if hints else "0"})
         if answer.status not in (DONE, SAYS_NO) and (answer.status not in (REFUSED, READ_FAULT) or not answer.lines):
-            raise Fault("\n".join(answer.said()) or f"{tool} ended with status {answer.status}", max(answer.status, 1))
+            *said, last = answer.said() or [f"{tool} ended with status {answer.status}"]
+            pass_on(said)
+            raise Fault(last, max(answer.status, 1))
         return answer
 
     def written(self, name: str, lines: Sequence[str]) -> str:
         """A file with these lines."""
-        path = Path(self._folder.name) / name
+        path = self._folder / name
         path.write_text("".join(f"{line}\n" for line in lines), encoding="utf-8", errors="surrogateescape")
         return str(path)
 
@@ -151,9 +152,3 @@ class Tools:
         """The lines `NAME: VALUE` of a tool about one event."""
         answer = self.ask(tool, [f"-e{event}"])
         return {} if answer.status else dict(re.split(": ?", line, maxsplit=1) for line in answer.lines)
-
-
-def tell(errors: Sequence[str]) -> None:
-    """Passes on what a tool said on standard error."""
-    for line in errors:
-        print(line, file=sys.stderr)

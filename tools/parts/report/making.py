@@ -7,8 +7,8 @@ from dataclasses import dataclass, field
 
 from formats.refusals import NAME_FAULTS, OF_NAME, RULES, why_not
 from formats.scripts import calls_of
-from parts.command import counted
-from parts.report.asking import Answer, Tables, Tools, check_files, read_again, tell
+from parts.command import counted, pass_on
+from parts.report.asking import Answer, Tables, Tools, check_files, read_again
 from parts.report.curves import draw_curves
 from parts.report.exact import exact_story
 from parts.report.markup import Markup, element
@@ -54,7 +54,7 @@ class Report:
         self.tools = tools
         self.asked = asked
         self.answer: Answer = tools.ask("papi_run", ["--notes"], [asked.script, *asked.streams], hints=True)
-        tell(self.answer.errors)
+        pass_on(self.answer.errors)
         self.said = [line for line in self.answer.said() if not BESIDE_ITS_CALL.match(line)]
         self.steps, self.notes = read_replies(calls_of(read_again(asked.script)), self.answer.lines)
         self.story = self._tell()

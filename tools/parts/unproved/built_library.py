@@ -6,14 +6,13 @@ from __future__ import annotations
 import hashlib
 import os
 import subprocess
-import sys
 from contextlib import AbstractContextManager, nullcontext, suppress
 from datetime import date
 from pathlib import Path
 
-from parts.command import Fault, own_name, uninterrupted
+from parts.command import Fault, own_name, pass_on, tell, uninterrupted
 from parts.compiler import run_group
-from parts.unproved.children import ends_with_parent
+from parts.started import ends_with_parent
 from parts.unproved.keeping import locked, put, remove_old
 from parts.unproved.making import SAID_ON
 from parts.unproved.sources import LIBRARY, ROOT, SUM_DIGITS
@@ -81,11 +80,13 @@ def _checksum(archive: Path) -> str:
 def _build(archive: Path, kept: Path) -> None:
     done = run_group([str(BUILD), str(kept), str(archive)])
     if done.returncode:
-        raise Fault(done.stderr.strip() or f"c/build ended with status {done.returncode}")
+        *said, last = done.stderr.strip().splitlines() or [""]
+        pass_on(said)
+        raise Fault(last or f"c/build ended with status {done.returncode}")
 
 
 def _waiting() -> AbstractContextManager[None]:
-    print(f"{own_name()}: waiting for another command, which builds the library", file=sys.stderr)
+    tell("waiting for another command, which builds the library")
     return nullcontext()
 
 
@@ -95,9 +96,8 @@ def _say_once_a_day(folder: Path) -> None:
         said_on = folder / SAID_ON
         if said_on.is_file() and said_on.read_text(encoding="ascii") == today:
             return
-        print(
-            f"{own_name()}: the proved library is not built: counted with the same code unproved "
-            f"(it is proved by: {LIBRARY.proved_by})",
-            file=sys.stderr,
+        tell(
+            "the proved library is not built: counted with the same code unproved "
+            f"(it is proved by: {LIBRARY.proved_by})"
         )
         said_on.write_text(today, encoding="ascii")

@@ -1,45 +1,15 @@
-"""The processes and the folder of a compilation. None of them outlives it, whatever signal ends
-it."""
+"""The processes of a compilation."""
 
 from __future__ import annotations
 
-import ctypes
 import errno
 import os
 import signal
-import subprocess
-import sys
-import tempfile
-from contextlib import contextmanager
 from pathlib import Path
-from typing import Callable, Iterator, Sequence
+from typing import Sequence
 
-from parts.command import Fault, uninterrupted
+from parts.command import Fault, pass_on
 from parts.compiler import run_group
-
-LIBC = ctypes.CDLL(None)
-SET_DEATH_SIGNAL = 1  # of prctl
-# Removes a folder when nobody holds its input any more, as when the process that made the folder
-# was killed.
-REMOVES = """trap '' HUP INT QUIT TERM
-cat >/dev/null
-for each in 1 2 3 4 5 6 7 8 9 10; do
-    rm -rf -- "$1" && break
-    sleep 0.2
-done
-"""
-
-
-def ends_with_parent(number: int = signal.SIGTERM) -> Callable[[], None]:
-    """What a new process does first, so that the end of this one sends it a signal."""
-    parent = os.getpid()
-
-    def begin() -> None:
-        LIBC.prctl(SET_DEATH_SIGNAL, number)
-        if os.getppid() != parent:
-            os._exit(1)
-
-    return begin
 
 
 def run(words: Sequence[str], folder: Path, cwd: Path) -> str:
@@ -49,9 +19,7 @@ def run(words: Sequence[str], folder: Path, cwd: Path) -> str:
     temporary.mkdir(exist_ok=True)
     environment = {**os.environ, "TMPDIR": str(temporary)}
     try:
-        done = run_group(
-            words, cwd=cwd, env=environment, preexec_fn=ends_with_parent(signal.SIGKILL)
-        )
+        done = run_group(words, signal.SIGKILL, cwd=cwd, env=environment)
     except OSError as error:
         raise Fault(f"{words[0]}: {error.strerror}") from None
     said = (done.stdout + done.stderr).strip()
@@ -63,29 +31,5 @@ def run(words: Sequence[str], folder: Path, cwd: Path) -> str:
 def refusal(said: str) -> Fault:
     """What ends a compilation of which a program has said this."""
     if said:
-        print(said, file=sys.stderr)
+        pass_on(said.splitlines())
     return Fault("the code can't be compiled unproved")
-
-
-@contextmanager
-def removed_folder(prefix: Path) -> Iterator[Path]:
-    """A folder whose name begins so, and that is gone after the block, also if this process is
-    killed in it."""
-    folder, guard = "", None
-    try:
-        with uninterrupted():
-            folder = tempfile.mkdtemp(prefix=prefix.name, dir=prefix.parent)
-            guard = subprocess.Popen(
-                ["/bin/sh", "-c", REMOVES, "guard", folder],
-                stdin=subprocess.PIPE,
-                cwd="/",
-                stdout=subprocess.DEVNULL,
-                stderr=subprocess.DEVNULL,
-                start_new_session=True,
-            )
-        yield Path(folder)
-    finally:
-        if guard is not None:
-            guard.communicate()
-        elif folder:
-            os.rmdir(folder)

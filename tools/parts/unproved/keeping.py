@@ -9,7 +9,7 @@ from pathlib import Path
 from typing import Callable, ContextManager, Iterator
 
 from parts.command import Fault
-from parts.unproved.children import removed_folder
+from parts.started import temporary_folder
 
 MOST_KEPT = 4  # folders of a kind
 Make = Callable[[Path, Path], None]
@@ -34,7 +34,7 @@ def put(folder: Path, kind: str, make: Make) -> None:
     begins = f"making.{kind}."
     for left in folder.parent.glob(f"{begins}*"):  # by a process that was killed: its lock is free
         shutil.rmtree(left, ignore_errors=True)
-    with removed_folder(folder.parent / begins) as work:
+    with temporary_folder(begins, folder.parent) as work:
         kept = work / "kept"
         kept.mkdir()
         try:

@@ -4,13 +4,12 @@ checksum of all that decides on them, and compiled if they are not there."""
 from __future__ import annotations
 
 import os
-import sys
 from contextlib import contextmanager, suppress
 from datetime import date
 from pathlib import Path
 from typing import Iterator
 
-from parts.command import Fault
+from parts.command import Fault, tell
 from parts.unproved.keeping import locked, put, remove_old
 from parts.unproved.sources import Kind, read_sources
 from parts.unproved.steps import compile_unproved, telling
@@ -66,4 +65,4 @@ class Unproved:
             yield
 
     def _say(self, what: str) -> None:
-        print(f"{self._speaker}: {what}", file=sys.stderr)
+        tell(what, self._speaker)
