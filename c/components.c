@@ -9,12 +9,19 @@ static struct { PAPI_component_info_t infos[MOST_COMPONENTS]; char pmus[MOST_COM
 /* What the program disabled before PAPI_library_init, by numbers as bits and by names. */
 static struct { unsigned numbers; char names[MOST_COMPONENTS][PAPI_MAX_STR_LEN]; int name_count; } disabled;
 
+/* The component of processors has PAPI's name for it, by which programs look for it, and is found by that of the unit's file too. */
+static const struct { const char *unit, *papi, *brief; } PROCESSORS = { "cpu", "perf_event", "perf" };
+
+static const char *papi_name(const char *name) { return strcmp(name, PROCESSORS.unit) ? name : PROCESSORS.papi; }
+
 /* A part of what the unit's file says of a component. */
 int kl_component_text(thread_state *t, int component, uint32_t part, uint32_t place, char *text, size_t room) {
     uint64_t length = 0;
     if (component < 0) return PAPI_ENOCMP;
     int code = kistalub_component(&t->library, (uint32_t)component, part, place, (unsigned char *)text, room - 1, &length);
-    return kl_ended(code, text, room - 1, length);
+    code = kl_ended(code, text, room - 1, length);
+    if (code == PAPI_OK && part == KISTALUB_COMPONENT_NAME && papi_name(text) != text) snprintf(text, room, "%s", PROCESSORS.papi);
+    return code;
 }
 
 /* Whether the program disabled a component of this number and name. */
@@ -71,7 +78,7 @@ static void describe(thread_state *t, int component, const char *name, const cha
     PAPI_component_info_t *info = &known.infos[component];
     memset(info, 0, sizeof *info);
     snprintf(info->name, sizeof info->name, "%s", name);
-    snprintf(info->short_name, sizeof info->short_name, "%.*s", (int)sizeof info->short_name - 1, name);
+    snprintf(info->short_name, sizeof info->short_name, "%.*s", (int)sizeof info->short_name - 1, strcmp(name, PROCESSORS.papi) ? name : PROCESSORS.brief);
     snprintf(info->description, sizeof info->description, "Modelled counters of the pmu %.90s", pmu);
     snprintf(info->version, sizeof info->version, "1.0");
     snprintf(info->support_version, sizeof info->support_version, "n/a");
@@ -125,8 +132,9 @@ const PAPI_component_info_t *PAPI_get_component_info(int component) {
     pthread_mutex_lock(&kl_component_lock);
     if (!is_told(component, name, pmu)) describe(t, component, name, pmu, presets);
     take_changes(component, name);
+    const PAPI_component_info_t *told = kl_told_component(&known.infos[component]);
     pthread_mutex_unlock(&kl_component_lock);
-    return &known.infos[component];
+    return told;
 }
 
 /* What is known of the components of one unit ends with it. */
@@ -144,7 +152,7 @@ int PAPI_get_component_index(const char *name) {
     HERE(t);
     if (!name) RETURN(PAPI_EINVAL);
     for (int component = 0; kl_component_text(t, component, KISTALUB_COMPONENT_NAME, 0, own, sizeof own) == PAPI_OK; component++)
-        if (!strcmp(own, name)) RETURN(component);
+        if (!strcmp(own, papi_name(name))) RETURN(component);
     RETURN(PAPI_ENOCMP);
 }
 
@@ -165,7 +173,7 @@ int PAPI_disable_component_by_name(const char *name) {
     if (!name || strnlen(name, PAPI_MAX_STR_LEN) == PAPI_MAX_STR_LEN) RETURN(PAPI_ENOCMP);
     pthread_mutex_lock(&kl_component_lock);
     int has_room = disabled.name_count < MOST_COMPONENTS;
-    if (has_room) strcpy(disabled.names[disabled.name_count++], name);
+    if (has_room) strcpy(disabled.names[disabled.name_count++], papi_name(name));
     pthread_mutex_unlock(&kl_component_lock);
     RETURN(has_room ? PAPI_OK : PAPI_ENOCMP);
 }

@@ -143,6 +143,7 @@ static int native(thread_state *t, int *event, int modifier, uint32_t first, uin
 int PAPI_enum_event(int *event, int modifier) {
     CALL(PAPI_enum_event);
     HERE(t);
+    modifier = kl_modifier(modifier);
     if (!event) RETURN(PAPI_EINVAL);
     if (*event & PAPI_PRESET_MASK) RETURN(next_row(t, event, modifier));
     RETURN(*event & PAPI_NATIVE_MASK ? native(t, event, modifier, 0, UINT32_MAX) : PAPI_EINVAL);
@@ -151,6 +152,7 @@ int PAPI_enum_event(int *event, int modifier) {
 int PAPI_enum_cmp_event(int *event, int modifier, int component) {
     CALL(PAPI_enum_cmp_event);
     HERE(t);
+    modifier = kl_modifier(modifier);
     if (!event) RETURN(PAPI_EINVAL);
     if (component < 0 || kistalub_counters(&t->library, (uint32_t)component) < 0 || kl_is_disabled(t, component)) RETURN(PAPI_ENOCMP);
     if (*event & PAPI_PRESET_MASK) RETURN(component ? PAPI_ENOCMP : next_row(t, event, modifier));

@@ -143,6 +143,7 @@ int PAPI_get_event_info(int event, PAPI_event_info_t *info) {
     HERE(t);
     if (!info) RETURN(PAPI_EINVAL);
     memset(info, 0, sizeof *info);
+    kl_ends_event_info(info);
     info->event_code = (unsigned)event;
     int answer = kl_name_in(t, event, info->symbol);
     if (answer == PAPI_OK && event & PAPI_PRESET_MASK) answer = derived_info(t, info);

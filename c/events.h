@@ -42,4 +42,13 @@ int kl_check_enabled(thread_state *t, uint32_t own);
 int kl_check_known(thread_state *t, const char *name);
 void kl_components_end(void);
 
+/* versions.c: what the header of a later version, which a program was compiled by, has elsewhere. */
+void kl_takes_version(int version);
+/* A modifier of an enumeration as our header has it. */
+int kl_modifier(int modifier);
+/* Under kl_component_lock. */
+const PAPI_component_info_t *kl_told_component(const PAPI_component_info_t *info);
+/* What stands behind the members that ours has. */
+void kl_ends_event_info(PAPI_event_info_t *info);
+
 #endif

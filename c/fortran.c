@@ -141,15 +141,15 @@ ROUTINE(papif_query_named_event, PAPIF_QUERY_NAMED_EVENT, (const char *name, int
 }
 ROUTINE(papif_get_event_info, PAPIF_GET_EVENT_INFO, (const int *event, char *symbol, char *long_text, char *short_text, int *count, char *note,
         const int *flags, int *check, int symbol_length, int long_length, int short_length, int note_length)) {
-    PAPI_event_info_t info;
+    struct { PAPI_event_info_t info; int later; } told;
     (void)flags;
-    *check = PAPI_get_event_info(*event, &info);
+    *check = PAPI_get_event_info(*event, &told.info);
     if (*check != PAPI_OK) return;
-    to_fortran(info.symbol, symbol, symbol_length);
-    to_fortran(info.long_descr, long_text, long_length);
-    to_fortran(info.short_descr, short_text, short_length);
-    to_fortran(info.note, note, note_length);
-    *count = (int)info.count;
+    to_fortran(told.info.symbol, symbol, symbol_length);
+    to_fortran(told.info.long_descr, long_text, long_length);
+    to_fortran(told.info.short_descr, short_text, short_length);
+    to_fortran(told.info.note, note, note_length);
+    *count = (int)told.info.count;
 }
 ROUTINE(papif_enum_event, PAPIF_ENUM_EVENT, (int *event, const int *modifier, int *check)) { *check = PAPI_enum_event(event, *modifier); }
 

@@ -121,6 +121,7 @@ int PAPI_library_init(int version) {
     int code = begin();
     pthread_mutex_unlock(&kl_beginning);
     if (code != PAPI_OK) RETURN(code);
+    kl_takes_version(version);
     return version;
 }
 

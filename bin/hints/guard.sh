@@ -8,6 +8,8 @@
 ENDING="1 2 3 4 5 6 7 8 10 11 12 13 14 15 16 24 25 26 27 29 30 31"
 ENDING="$ENDING 34 35 36 37 38 39 40 41 42 43 44 45 46 47 48 49 50 51 52 53 54 55 56 57 58 59 60 61 62 63 64"
 
+guarded=
+
 ignore_signals() {
     # shellcheck disable=SC2086
     trap '' $ENDING

@@ -184,7 +184,7 @@ static void events(void) {
     setenv("PAPI_EVENTS", "INST_RETIRED,CYCLES,BR_MISP,CACHE,MEM:LOADS", 1);
     setenv("PAPI_MULTIPLEX", "1", 1);
     run(counts_a_region);
-    WANT(times("papi_hl_output/rank_000000.json", "\"component\":\"cpu\""), 5);
+    WANT(times("papi_hl_output/rank_000000.json", "\"component\":\"perf_event\""), 5);
     take_away("papi_hl_output");
     unsetenv("PAPI_MULTIPLEX");
     setenv("PAPI_EVENTS", "CYCLES,PACKETS,INST_RETIRED", 1); /* the second one is of another component */

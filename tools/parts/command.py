@@ -10,7 +10,7 @@ import sys
 from contextlib import contextmanager, suppress
 from pathlib import Path
 from types import FrameType
-from typing import Any, Callable, Iterable, Iterator, NoReturn
+from typing import Any, Callable, Iterable, Iterator, NoReturn, Sequence
 
 from formats import files
 from formats.texts import plain
@@ -18,19 +18,21 @@ from formats.texts import plain
 BY_SIGNAL = 128  # what a status adds to the number of a signal
 MOST_BYTES = 1 << 27  # of a file that is read as a whole
 LONGEST_LINE = 1 << 20  # bytes, of standard input
-# All that end a process, but for those that can't be caught, or that tell of a fault of its own.
+# All that end a process, but for those that can't be caught, that Python ignores, or that tell of a fault of its own.
 ENDING_SIGNALS = tuple(sorted(
     signal.valid_signals() - {signal.SIGKILL, signal.SIGSTOP, signal.SIGTSTP, signal.SIGTTIN, signal.SIGTTOU, signal.SIGCHLD, signal.SIGCONT, signal.SIGURG, signal.SIGWINCH}
+    - {signal.SIGPIPE, signal.SIGXFSZ}
     - {signal.SIGILL, signal.SIGTRAP, signal.SIGABRT, signal.SIGBUS, signal.SIGFPE, signal.SIGSEGV, signal.SIGSYS}
 ))
 
 
 class Fault(Exception):
-    """Input that a tool cannot use. Its text is the line on standard error, and the tool ends with its status."""
+    """Input that a tool cannot use. Its text is the line on standard error, after which more lines of another program may come, and the tool ends with its status."""
 
-    def __init__(self, text: str, status: int = 1):
+    def __init__(self, text: str, status: int = 1, more: Sequence[str] = ()):
         super().__init__(text)
         self.status = status
+        self.more = more
 
 
 def own_name() -> str:
@@ -159,6 +161,7 @@ def _status_of(tool: str, work: Callable[[], None]) -> int:
         work()
     except Fault as fault:
         tell(fault, tool)
+        pass_on(fault.more)
         return fault.status
     except SystemExit as end:
         return end.code if isinstance(end.code, int) else int(end.code is not None)

@@ -7,7 +7,7 @@ from typing import BinaryIO, Iterator
 
 from formats.files import Unread, opened
 from parts.command import Fault
-from parts.elf_file import SHARED_OBJECT, X86_64, ElfHead, Function, symbols_of
+from parts.elf_file import HEAD, SHARED_OBJECT, X86_64, ElfHead, Function, symbols_of
 
 ELF_MAGIC = b"\x7fELF"
 
@@ -19,7 +19,8 @@ def _program(name: str) -> Iterator[tuple[BinaryIO, ElfHead]]:
             head = ElfHead.read(file)
             if head is None:
                 file.seek(0)
-                is_other = file.read(len(ELF_MAGIC)) == ELF_MAGIC
+                content = file.read(HEAD.size)
+                is_other = content.startswith(ELF_MAGIC) and len(content) == HEAD.size
                 raise Fault(f"{name}: not a program for x86-64, and others can't be recorded" if is_other else f"{name}: not a program file (ELF)")
             yield file, head
     except Unread as unread:

@@ -42,7 +42,7 @@ class Statuses(unittest.TestCase):
 
 class Signals(InFolder):
     def run_code(self, *lines: str) -> subprocess.CompletedProcess[str]:
-        code = "\n".join(("import os, signal, sys", "from parts.command import *", "from parts.command import temporary_folder, uninterrupted, end_with", "kill = lambda number: os.kill(os.getpid(), number)",
+        code = "\n".join(("import os, signal, sys", "from parts.command import *", "from parts.started import temporary_folder", "kill = lambda number: os.kill(os.getpid(), number)",
                           "def work():", *(f" {line}" for line in lines), "end_with('it', work)"))
         return subprocess.run([sys.executable, "-B", "-c", code], cwd=self.folder, env={"PYTHONPATH": str(TOOLS), "TMPDIR": str(self.folder)}, capture_output=True, text=True,
                               preexec_fn=lambda: [signal.signal(each, signal.SIG_DFL) for each in command.ENDING_SIGNALS])

@@ -91,7 +91,7 @@ class Ended(InFolder):
 
     def test_a_signal_while_the_folder_is_made(self) -> None:
         code = "\n".join(("import os, tempfile", "from parts.command import end_by_termination, end_with", "from parts.report.asking import Tables, Tools",
-                          "end_by_termination()", "make = tempfile.mkdtemp", "def interrupted(*words):", "  made = make(*words)", "  os.kill(os.getpid(), 15)", "  return made",
+                          "end_by_termination()", "make = tempfile.mkdtemp", "def interrupted(**words):", "  made = make(**words)", "  os.kill(os.getpid(), 15)", "  return made",
                           "tempfile.mkdtemp = interrupted", "end_with('it', lambda: Tools(Tables('unit')))"))
         temporary = self.folder / "temporary"
         temporary.mkdir()

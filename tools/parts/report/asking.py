@@ -10,7 +10,7 @@ from pathlib import Path
 from typing import Iterable, Mapping, Sequence
 
 from formats.files import Unread, read_lines
-from parts.command import Fault, pass_on, uninterrupted
+from parts.command import Fault, uninterrupted
 from parts.started import ends_with_parent, temporary_folder
 
 ROOT = Path(__file__).resolve().parents[3]
@@ -97,9 +97,8 @@ class Tools:
         command = [str(ROOT / "bin" / tool), *self.tables.words(tool != "papi_native_avail"), *options, *(["--", *words] if words else [])]
         answer = _answer_of(command, {**os.environ, "KISTALUB_HINTS": "1" if hints else "0"})
         if answer.status not in (DONE, SAYS_NO) and (answer.status not in (REFUSED, READ_FAULT) or not answer.lines):
-            *said, last = answer.said() or [f"{tool} ended with status {answer.status}"]
-            pass_on(said)
-            raise Fault(last, max(answer.status, 1))
+            said, *more = answer.said() or [f"{tool} ended with status {answer.status}"]
+            raise Fault(said, max(answer.status, 1), more)
         return answer
 
     def written(self, name: str, lines: Sequence[str]) -> str:

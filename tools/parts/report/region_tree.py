@@ -60,7 +60,8 @@ def read_tree(tools: Tools, regions: str, events: str, streams: Sequence[str]) -
     """The outermost regions of a region script, thread by thread, with the counts of these events."""
     answer = tools.ask("papi_regions", [f"--events={events}"], [regions, *streams], hints=True)
     if answer.status == SAYS_NO:
-        raise Fault("\n".join([*answer.lines, *answer.said()]))
+        said, *more = [*answer.lines, *answer.said()]
+        raise Fault(said, more=more)
     growing = _Growing()
     for call in calls_of(read_again(regions)):
         growing.take(call)

@@ -10,7 +10,7 @@ from contextlib import AbstractContextManager, nullcontext, suppress
 from datetime import date
 from pathlib import Path
 
-from parts.command import Fault, own_name, pass_on, tell, uninterrupted
+from parts.command import Fault, own_name, tell, uninterrupted
 from parts.compiler import run_group
 from parts.started import ends_with_parent
 from parts.unproved.keeping import locked, put, remove_old
@@ -80,9 +80,10 @@ def _checksum(archive: Path) -> str:
 def _build(archive: Path, kept: Path) -> None:
     done = run_group([str(BUILD), str(kept), str(archive)])
     if done.returncode:
-        *said, last = done.stderr.strip().splitlines() or [""]
-        pass_on(said)
-        raise Fault(last or f"c/build ended with status {done.returncode}")
+        said, *more = done.stderr.strip().splitlines() or [
+            f"c/build ended with status {done.returncode}"
+        ]
+        raise Fault(said, more=more)
 
 
 def _waiting() -> AbstractContextManager[None]:
