@@ -30,7 +30,7 @@ def _all(pattern: str, *, but: tuple[str, ...] = ()) -> tuple[str, ...]:
     return tuple(sorted(str(path.relative_to(ROOT)) for path in ROOT.glob(pattern) if path.name not in ("__init__.py", *but)))
 
 
-_SCRIPTS = "test_silent test_hints_running test_progress test_unproved test_endings.Scripts"
+_SCRIPTS = "test_silent test_hints_running test_progress test_unproved test_endings.Scripts test_any_end.Scripts"
 PARTS = {
     "endings": Part(_parts("command", "quiet", "started"), "test_command test_plot test_endings test_outside_names test_any_end"),
     "plot": Part(("tools/plot", *_parts("chart", "profile", "xml_text")), "test_plot test_endings.Texts test_endings.Streams"),

@@ -18,7 +18,7 @@ from parts.elf_file import HEAD, MARK, libraries_of
 from parts.report.source_lines import places_of, source_lines
 from parts.profile import Bucket
 from parts.symbols import read_functions
-from tests.support import TOOLS, InFolder, needs_command, needs_program, run_tool
+from tests.support import TOOLS, InFolder, all_of, needs_command, needs_program, run_tool
 
 SECONDS = 30
 ODD = "a\x1b[31m\nb\x07\u202e\x9b"
@@ -112,7 +112,7 @@ class Shown(unittest.TestCase):
                     line for line in lines if not line.startswith(("usage:", " ", "{", "hint: "))
                 ]
                 self.assertNotEqual(done.returncode, 0)
-                self.assertTrue(all(map(str.isprintable, done.stderr.split("\n"))), done.stderr)
+                self.assertTrue(all_of(done.stderr.split("\n"), str.isprintable), done.stderr)
                 self.assertEqual((len(said), said[0][: len(name) + 2]), (1, f"{name}: "))
 
 
