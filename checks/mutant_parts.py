@@ -50,7 +50,11 @@ PARTS = {
     "package": Part(_parts("package_links"), "test_package_links"),
     "building": Part(("python/building.py",), "test_building", folder="python/tests"),
     "python": Part(_all("python/kistalub/*.py"), "test_event_sets test_forgotten test_library test_pytest_plugin", folder="python/tests", is_pure=False),
-    "completions": Part(("completions/candidates", "completions/kistalub.bash"), "test_completions", is_pure=False),
+    "completions": Part(_all("completions/*"), "test_completions", is_pure=False),
+    "examples": Part(("examples/check", "examples/folder.sh"), "test_examples_check", is_pure=False),
+    "headers": Part(_all("include/*.h"), "test_c_header test_made_files test_declarations test_version", ("checks/papi_header",), is_pure=False),
+    "valgrind": Part(("tools/valgrind/build", *_all("tools/valgrind/*.[ch]")), "test_tool test_tool_edges test_record test_count test_count_whole test_count_functions test_count_profile test_thresholds test_kernels "
+                     "test_any_end.Builds", is_pure=False),
     "install": Part(("bin/install",), "test_install"),
     "make_deb": Part(("tools/make_deb",), "test_make_deb", is_pure=False),
     "conflict": Part(("tools/conflict", *(f"tools/parts/report/{name}.py" for name in ("alone", "matrix"))), "test_conflict test_report_page.Limits", is_pure=False),
@@ -61,7 +65,7 @@ PARTS = {
         ("tools/compile_unproved", *_all("tools/parts/unproved/*.py")),
         "test_unproved test_compile_unproved test_built_library", is_pure=False),
     "record": Part(("tools/record", *_parts("codes", "recording", "recording_words", "machine", "valgrind")), "test_record test_tool test_count", is_pure=False),
-    "count": Part(("tools/count", *_parts("counting", "ranks")), "test_count", is_pure=False),
+    "count": Part(("tools/count", *_parts("counting", "ranks")), "test_count test_ranks", is_pure=False),
     "count_profile": Part(_parts("callgrind_file", "code_profile", "profile_counts"), "test_count_profile", is_pure=False),
     "profile_page": Part(_parts("profile_page/annotated", "profile_page/flame", "profile_page/making"), "test_profile_page", is_pure=False),
     "count_whole": Part(_parts("attended", "count_files", "count_table", "elf_file", "event_sums", "kinds", "papi_program", "processes", "whole", "whole_counts", "whole_words"),
@@ -72,9 +76,10 @@ PARTS = {
 
 
 def without_part() -> list[str]:
-    """The programs of tools/, bin/, completions/ and python/ that no part has. Those of a usage alone, and what other shells than bash read, are none of them."""
+    """The programs of tools/, bin/, completions/, c/, include/, examples/ and python/ that no part has. Those of a usage alone are none of them, nor are what examples show."""
     scripts = [path for path in (*(ROOT / "tools").iterdir(), *(ROOT / "bin").iterdir()) if path.is_file() and path.stat().st_mode & 0o111]
-    sources = [path for pattern in ("tools/parts/**/*.py", "bin/**/*.py", "bin/**/*.sh", "python/*.py", "python/kistalub/*.py") for path in ROOT.glob(pattern) if path.name != "__init__.py"]
+    sources = [path for pattern in ("tools/parts/**/*.py", "bin/**/*.py", "bin/**/*.sh", "python/*.py", "python/kistalub/*.py", "completions/*", "c/*.c", "include/*.h", "tools/valgrind/*",
+                                   "examples/check", "examples/*.sh") for path in ROOT.glob(pattern) if path.name != "__init__.py"]
     changed = {file for part in PARTS.values() for file in part.files}
     tools = (ROOT / "bin/usage").iterdir()
     usages = {f"bin/{path.name}" for path in tools if path.name not in ("papi", "install")}
