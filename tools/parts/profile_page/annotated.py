@@ -6,8 +6,8 @@ from collections import Counter, defaultdict
 from dataclasses import dataclass, field
 from typing import Sequence
 
+from formats.texts import plain
 from parts.command import counted
-from parts.count_table import shown as printable
 from parts.profile_counts import ProfileCounts
 from parts.report.markup import LONGEST, Child, Markup, element
 from parts.report.numbers import shown
@@ -99,7 +99,7 @@ def _row(source: Source, number: int, events: Sequence[str]) -> Markup:
         pair(shown_line.own[event], shown_line.with_calls(event), place)
         for place, event in enumerate(events)
     ]
-    told = printable(", ".join(sorted(line.functions))) if line and line.functions else None
+    told = plain(", ".join(sorted(line.functions))) if line and line.functions else None
     return element(
         "tr",
         element("td", number, class_="number", title=told),
@@ -136,7 +136,7 @@ def draw_sources(profile: ProfileCounts, events: Sequence[str], total: Counts) -
         room -= len(numbers)
         share = 100 * source.own(first) / total[first] if total[first] else 0
         told = element("small", f"{shown(source.own(first))} {first}, {share:.2f} %")
-        head = element("h3", element("code", printable(source.file)), told)
+        head = element("h3", element("code", plain(source.file)), told)
         made.append(element("section", head, _table(source, numbers, events)))
     return made + _unread(profile, sources, readable, first)
 

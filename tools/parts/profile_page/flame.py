@@ -11,8 +11,8 @@ from collections import defaultdict
 from dataclasses import dataclass, field
 from typing import Sequence
 
+from formats.texts import plain
 from parts.code_profile import FunctionKey
-from parts.count_table import shown as printable
 from parts.profile_counts import ProfileCounts, ProfiledFunction
 from parts.report.markup import Markup, element
 from parts.report.numbers import shown
@@ -112,8 +112,8 @@ def draw_flame(profile: ProfileCounts, event: str, total: int, number: int) -> M
 def _told(frame: Frame, total: int) -> str:
     about = "" if frame.is_exact else "about "
     share = 100 * frame.count / total if total else 0
-    place = f" ({printable(frame.place)})" if frame.place else ""
-    return f"{printable(frame.name)}{place}: {about}{shown(round(frame.count))}, {share:.2f} %"
+    place = f" ({plain(frame.place)})" if frame.place else ""
+    return f"{plain(frame.name)}{place}: {about}{shown(round(frame.count))}, {share:.2f} %"
 
 
 def _drawn(frame: Frame, part: float, total: int, depth: int) -> Markup:
@@ -124,7 +124,7 @@ def _drawn(frame: Frame, part: float, total: int, depth: int) -> Markup:
     ]
     label = element(
         "button",
-        printable(frame.name),
+        plain(frame.name),
         type="button",
         class_=f"bar-of {tone}",
         title=_told(frame, total),

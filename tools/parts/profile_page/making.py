@@ -5,8 +5,8 @@ from __future__ import annotations
 import shlex
 from typing import Sequence
 
+from formats.texts import plain
 from parts.command import counted
-from parts.count_table import shown as printable
 from parts.profile_counts import ProfileCounts, ProfiledFunction, ProfiledInlined
 from parts.profile_page.annotated import draw_sources, heads, pair, table_of
 from parts.profile_page.flame import draw_flame
@@ -55,8 +55,8 @@ def _function_row(each: ProfiledFunction, events: Sequence[str], total: Counts) 
         track = element("div", bar, class_="track", title=f"{share:.2f} %")
         cells += pair(each.own[event], each.inclusive[event], number)
         cells.append(element("td", track, data_event=number))
-    name = element("code", printable(each.name), title=printable(each.place()))
-    place = element("small", printable(each.place().rpartition("/")[2]))
+    name = element("code", plain(each.name), title=plain(each.place()))
+    place = element("small", plain(each.place().rpartition("/")[2]))
     calls = element("td", shown(each.calls), class_="number")
     return element("tr", element("td", name, " ", place), calls, cells)
 
@@ -81,7 +81,7 @@ def _inlined_row(each: ProfiledInlined, events: Sequence[str]) -> Markup:
         for number, event in enumerate(events)
     ]
     names = [
-        element("td", element("code", printable(name))) for name in (each.name, each.function.name)
+        element("td", element("code", plain(name))) for name in (each.name, each.function.name)
     ]
     return element("tr", names, cells)
 
@@ -117,10 +117,10 @@ def _sections(counts: WholeCounts, profile: ProfileCounts) -> list[Section]:
 
 def profile_page(counts: WholeCounts, profile: ProfileCounts) -> str:
     """The whole page as a text."""
-    command = printable(shlex.join(counts.command))
-    files = [("command", command), *(("function", printable(name)) for name in counts.functions)]
+    command = plain(shlex.join(counts.command))
+    files = [("command", command), *(("function", plain(name)) for name in counts.functions)]
     picks = [chip(event, "", data_pick_event=number) for number, event in enumerate(counts.events)]
-    title = printable(counts.command[0].rpartition("/")[2])
+    title = plain(counts.command[0].rpartition("/")[2])
     bar = chips("pick an event", picks)
     top = Top("Kistalub profile", title, files, _tiles(counts.total), bar)
     return framed(top, _sections(counts, profile), "tools/count --page")
