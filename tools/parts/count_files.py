@@ -12,7 +12,7 @@ from pathlib import Path
 from typing import Any, Mapping
 
 from parts.command import read_bytes
-from parts.machine import COSTS, Machine
+from parts.machine import Machine
 from parts.whole_counts import WholeCounts
 
 FORMAT, VERSION = "kistalub-counts", 1

@@ -215,6 +215,6 @@ def _inlined_lines(profile: ProfileCounts, events: list[str]) -> list[str]:
     lines = [f" {'  '.join(heads)}  of these in functions that are inlined"]
     for each in profile.inlined[:MOST_INLINED]:
         cells = [f"{each.own[event]:,}".rjust(width) for event, width in zip(events, widths)]
-        place = f"{shown(each.name):<{NAME_WIDTH}}  in {shown(each.function.name)}"
+        place = f"{plain(each.name):<{NAME_WIDTH}}  in {plain(each.function.name)}"
         lines.append(f" {'  '.join(cells)}  {place}")
     return [*lines, ""]

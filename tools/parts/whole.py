@@ -24,7 +24,7 @@ from parts.papi_program import prepare_program
 from parts.processes import Process, numbered, read_processes
 from parts.profile_counts import ProfileCounts, as_further_json, profile_counts, profile_table
 from parts.profile_page.making import profile_page
-from parts.whole_counts import ProcessCounts, ThreadCounts, WholeCounts, summed
+from parts.whole_counts import ProcessCounts, ThreadCounts, WholeCounts
 
 USUAL = (
     "PAPI_TOT_INS",

@@ -11,11 +11,11 @@ from parts.command import counted
 from parts.profile_counts import ProfileCounts
 from parts.report.markup import LONGEST, Child, Markup, element
 from parts.report.numbers import shown
+from parts.report.source_lines import lines_of
 from parts.whole_counts import Counts
 
 MOST_LINES = 3000  # of all files, with those around them
 AROUND = 3
-MOST_BYTES = 16 << 20  # of a file that is read
 
 
 @dataclass
@@ -44,14 +44,6 @@ class Source:
         return sorted(number for number in near if number in self.lines or 1 <= number <= most)
 
 
-def _texts_of(file: str) -> list[str] | None:
-    try:
-        with open(file, encoding="utf-8", errors="replace") as source:
-            return source.read(MOST_BYTES).split("\n")
-    except (OSError, ValueError):
-        return None
-
-
 def sources_of(profile: ProfileCounts, first: str) -> list[Source]:
     """The files of a profile, by falling counts of the first event."""
     found: dict[str, Source] = {}
@@ -66,7 +58,7 @@ def sources_of(profile: ProfileCounts, first: str) -> list[Source]:
             line = found.setdefault(call.file, Source(call.file)).lines[call.line]
             line.calls.update(call.inclusive)
     for source in found.values():
-        source.texts = _texts_of(source.file)
+        source.texts = lines_of(source.file) or None
     return sorted(found.values(), key=lambda source: (-source.own(first), source.file))
 
 

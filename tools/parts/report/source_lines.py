@@ -58,14 +58,15 @@ def source_lines(places: dict[int, tuple[str, str, int]], buckets: Sequence[Buck
             function, file, number = places[bucket.address]
             if (file, number) not in lines:
                 if file not in texts:
-                    texts[file] = _lines_of(file)
+                    texts[file] = lines_of(file)
                 text = texts[file][number - 1] if number <= len(texts[file]) else ""
                 lines[file, number] = SourceLine(function, file, number, 0, text.strip()[:LONGEST])
             lines[file, number].hits += bucket.hits
     return sorted(lines.values(), key=lambda line: -line.hits)
 
 
-def _lines_of(file: str) -> list[str]:
+def lines_of(file: str) -> list[str]:
+    """The lines of a regular file that is named as source is, or none."""
     try:
         return content(file, MOST_BYTES).decode("utf-8", "replace").split("\n") if SOURCE.fullmatch(file) else []
     except (OSError, Unread):
