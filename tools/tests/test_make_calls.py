@@ -2,11 +2,14 @@
 
 from __future__ import annotations
 
+import re
 import unittest
 
 from parts.call_answers import FOLDER, MAKE, answer_texts, make_text
 from parts.call_table import ABOVE_CALLS, MADE, TABLE, WIDTH, Call, event_arms, eventless_lines, form_clauses, made_texts, read_calls, rule_lines, with_usage
 from parts.command import Fault
+from parts.session_answers import FOLDER as SESSION
+from parts.session_answers import session_text, session_texts
 from tests.support import ROOT, before_and_after, run_tool, some
 
 HEAD = "word,arguments,variant,gives,papi,usage,replies,refusals\n"
@@ -98,6 +101,26 @@ class MakeCalls(unittest.TestCase):
         for old, new in (("SET,", "SET EVENT,"), ("SetNumber", "values")):
             before, after = before_and_after(PROBE.replace(old, new), TABLE, (), answer_texts)
             self.assertEqual(after, before)
+
+    def test_a_method_of_a_session_has_answers(self) -> None:
+        for arguments, gives, goals, reply in (
+            ("SET", "SetNumber", "requires self returns", "(reply_of (λ value. body.SetNumber value) GIVEN) NEW"),
+            ("SET", "code", "requires self returns", "(plain GIVEN) NEW"),
+            ("SET", "State", "requires returns", "(reply_of (λ value. body.State value) GIVEN) refl"),
+            ("SET", "values", "requires self does kept", "(values_reply GIVEN c.probe_set.new.into) NEW"),
+            ("SET EVENT", "refusal", "agrees named self does refusal", "(changed_reply GIVEN) NEW"),
+        ):
+            told = "" if gives in ("code", "refusal") else "a number"
+            text = session_text(call_of(f"probe,{arguments},ProbeSet,{gives},,probes,{told},none\n"))
+            stated = re.findall(r"(?m)^pub (?:.*[-_])?(\w+) :", text)
+            self.assertEqual(stated, goals.split())
+            said = reply.replace("GIVEN", "c.probe_set.result").replace("NEW", "c.probe_set.new.self")
+            self.assertIn(f"c.args.set{' c.args.e.now' if 'named' in goals else ''}) {said}", text)
+
+    def test_a_new_call_has_answers_of_its_method(self) -> None:
+        for old, new, made in (("SET,", "SET,", [f"{SESSION}/probe_set/Answers.antt"]), ("SetNumber", "Ran", [])):
+            before, after = before_and_after(PROBE.replace(old, new), TABLE, (), session_texts)
+            self.assertEqual([name for name in after if name not in before], made)
 
     def test_the_first_of_the_codes_stands_without_its_arm(self) -> None:
         calls = [call_of(line) for line in (PROBE, LINE, LINE.replace("tart", "top"))]

@@ -9,6 +9,7 @@ pub mod Results
 pub mod Delivering
 pub mod Rooms
 pub mod Calling
+pub mod Handed
 pub mod Opened
 pub mod Growing
 pub mod Words

@@ -1,12 +1,16 @@
-use Rattle.thread_session.proofs.Words.{refl, subst, reply_of, Does, SessionView}
+use Rattle.std.proofs.Common.{refl}
 use Rattle.call_type.specs.declared.call.Call.TheVariants as call
+use Rattle.thread_core.specs.Following.{reply_of}
 use Rattle.session_model.specs.declared.reply.Body.TheVariants as body
-use Rattle.thread_session.proofs.Calling.{call_does}
+use Rattle.thread_session.proofs.Handed.{handed_still, may_call}
 use Rattle.thread_session.proofs.session.Session.raw.Goals as goal
+
+pub raw-requires : goal.raw-requires
+raw-requires g c =
+    let q = c.self.inside in
+    may_call c.args.book.now q.core q.reader c.self.view_is c.requires.ready
 
 pub returns : goal.returns
 returns g c =
     let q = c.self.inside in
-    let s : SessionView = record { core = q.core; reader = q.reader } in
-    subst (λ (v : SessionView). Does c.args.book.now v v (call.Raw c.args.set c.args.c) (reply_of (λ value. body.Register value) c.raw.result)) c.self.view_is
-    (call_does c.args.book.now s q.core (call.Raw c.args.set c.args.c) (reply_of (λ value. body.Register value) c.raw.result) refl c.raw.ensures)
+    handed_still c.args.book.now q.core q.reader (call.Raw c.args.set c.args.c) (reply_of (λ value. body.Register value) c.raw.result) refl c.raw.ensures c.self.view_is
