@@ -1,4 +1,5 @@
 use Rattle.thread_session.proofs.Words.{arith, ap, ◌∙◌, unwrap_or}
+use Rattle.std.proofs.lemmas.Grind.{common_steps}
 use Rattle.thread_session.proofs.Delivering.{cut_off, fewer_left, next_left, one_note}
 use Rattle.thread_session.proofs.delivery.deliver.Goals as goal
 
@@ -17,3 +18,6 @@ pub returns-in_err-on_overflow-clause-part : goal.returns-in_err-on_overflow-cla
 returns-in_err-on_overflow-clause-part g c =
     cut_off c.from_residual.result _ _ _ c.args.thread c.args.taken.now.set c.args.o.now c.args.taken.now.passed c.loop-told._told
     (omega (arith, c.loop-told-test.true, c.len-told-end.ensures.length)) c.loop-told.invariant.told c.in_err-on_overflow.ensures.1
+
+pub returns-clause-whole : goal.returns-clause-whole
+returns-clause-whole g c = grind (arith, common_steps)

@@ -1,5 +1,6 @@
 use Rattle.thread_session.proofs.Words.{arith, ap, ◌∙◌, ◌+◌, length-set, drop-set-lt, note}
 use Rattle.std.specs.Prelude.{length, unwrap_or}
+use Rattle.std.proofs.lemmas.Grind.{common_steps}
 use Rattle.thread_session.proofs.Delivering.{fewer_left, next_left, one_note}
 use Rattle.thread_session.proofs.Rooms.{one_place}
 use Rattle.thread_session.proofs.filling.place.Goals as goal
@@ -18,3 +19,6 @@ loop-i-preserved c =
       rest = drop-set-lt (c.args.at + length passed) c.loop-i.out (c.args.at + i) here (omega (arith, c.loop-i-test.true, c.len-i-end.ensures.length)) ∙ inv.rest;
       left = c.pop_first.ensures.rest ∙ fewer_left passed c.loop-i.left i inv.left;
     }
+
+pub returns-clause-written : goal.returns-clause-written
+returns-clause-written c = grind (arith, common_steps)
