@@ -139,7 +139,7 @@ REGIONS: dict[str, Callable[[list[Preset]], list[str]]] = {
 
 # Texts with the number of presets, which stands at {n}. At {n+2} there are two user events more.
 NUMBERS: dict[str, tuple[str, ...]] = {
-    "README.md": ("| 108 presets | [{n}](",),
+    "docs/DIFFERENCES.md": ("| 108 presets | [{n}](",),
     "docs/FORMATS.md": ("| a preset file | {n} symbols and ", " and {n} of PAPI's presets are known"),
     "docs/C_PROGRAMS.md": ("The model has [{n}](",),
     "examples/avail.expected": ("Of {n} possible events",),
