@@ -44,7 +44,7 @@ PARTS = {
                                                   "shared_registers", "unit_file", "unit_of_pmu")),
                       "test_make_unit test_processors test_endings.EventFiles", is_pure=False),
     "made": Part(("tools/make_calls", "tools/make_definitions", "tools/make_limits", "tools/make_presets", "tools/make_tools",
-                  *_parts("call_answers", "call_table", "definitions", "definitions_page", "preset_table",
+                  *_parts("call_answers", "call_table", "session_answers", "definitions", "definitions_page", "preset_table",
                           "regions", "steps_rows", "tool_lists", "tool_table", "words_rows")),
                  "test_definitions test_make_calls test_make_presets test_make_tools test_made_files test_regions test_endings.Texts"),
     "package": Part(_parts("package_links"), "test_package_links"),

@@ -107,6 +107,7 @@ class Definitions(InFolder):
     def test_the_page_is_written_and_looked_at(self) -> None:
         """In a repository that has the tool. The README has the total too."""
         shutil.copytree(TOOLS, self.folder / "tools", ignore=shutil.ignore_patterns("tests"))
+        shutil.copytree(TOOLS.parent / "bin/hints/formats", self.folder / "bin/hints/formats")
         total = total_line(read_guide(self.folder))
 
         def run(*words: str) -> tuple[int, str, str]:

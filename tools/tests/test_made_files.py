@@ -8,7 +8,7 @@ import subprocess
 from pathlib import Path
 from typing import Iterable
 
-from parts import call_answers, call_table, tool_lists, tool_table
+from parts import call_answers, call_table, session_answers, tool_lists, tool_table
 from parts.preset_table import MADE, NUMBERS, REGIONS, TABLE, with_number
 from tests.support import ROOT, InFolder, needs_command, some
 
@@ -74,12 +74,13 @@ class Made(InFolder):
             self.assertEqual((self.folder / name).read_bytes(), content)
 
     def test_tables_of_calls(self) -> None:
-        answers = call_answers.answer_texts()
+        answers = {**call_answers.answer_texts(), **session_answers.session_texts()}
         made = (*call_table.MADE, *answers)
         self.check_regions("make_calls", call_table.TABLE, made, call_table.REGIONS)
         for name in some(answers)[:2]:
             self.check("make_calls", self.folder / name)
-        shutil.rmtree(self.folder / call_answers.FOLDER)
+        for made_folder in (call_answers.FOLDER, session_answers.FOLDER):
+            shutil.rmtree(self.folder / made_folder)
         self.assertEqual(self.run_tool("make_calls"), (0, "", ""))
         self.assertEqual(self.run_tool("make_calls", "--check"), (0, "", ""))
 

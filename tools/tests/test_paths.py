@@ -83,7 +83,7 @@ class Places(InFolder):
 def installed(place: Path) -> Path:
     """What records programs, as a prefix has it, with no link to this checkout."""
     (place / "tools").mkdir(parents=True)
-    for name in ("tools/record", "tools/parts", "tools/valgrind"):
+    for name in ("tools/record", "tools/parts", "tools/valgrind", "tools/processors", "bin/hints"):
         copy = shutil.copytree if (ROOT / name).is_dir() else shutil.copy2
         copy(ROOT / name, place / name)
     shutil.copytree(ROOT / "examples", place / "examples", ignore=lambda _, names: [

@@ -109,7 +109,7 @@ class Programs(InFolder):
         for begun, ended in (
             ("papi_count --callg", "papi_count --callgrind "),
             ("papi_record --l1d none --mach", "papi_record --l1d none --machine "),
-            ("papi_count --machine sk", "papi_count --machine skl "),
+            ("papi_count --machine sp", "papi_count --machine spr "),
             ("papi_compare so", "papi_compare some.json "),
             ("papi_compare --by=f", "papi_compare --by=function "),
             ("papi_count ./some.json --callg", "papi_count ./some.json --callg"),

@@ -152,7 +152,7 @@ class Building(InFolder):
         folder = self.folder / "commands"
         folder.mkdir()
         texts.setdefault("valgrind", f'exec {shutil.which("valgrind")} "$@"')
-        for name in ("sh", "cc", "as", "ld", "valgrind", "uname", "sed", "mktemp", "rm", "mv", "cat", "dirname", "env", "nm"):
+        for name in ("sh", "cc", "as", "ld", "valgrind", "uname", "sed", "mktemp", "mkfifo", "sleep", "rm", "mv", "cat", "dirname", "env", "nm"):
             if name not in texts:
                 (folder / name).symlink_to(shutil.which(name) or name)
         for name, text in texts.items():
@@ -569,7 +569,7 @@ class Runs(Recording):
 
     def test_words_and_names(self) -> None:
         self.assertIn("record: error: the following arguments are required: PROGRAM\n", run_tool("record").stderr)
-        self.assertEqual(self.refused("a\nb"), "record: a\nb: no such program\n")
+        self.assertEqual(self.refused("a\nb"), "record: a\\nb: no such program\n")
         done = run_tool("record", "-o", "/nonexistent/x", "true")
         self.assertEqual((done.returncode, done.stderr), (1, "record: /nonexistent/x: No such file or directory\n"))
         self.assertRegex(self.refused(self.write("text", "")), r"no such program\n$")

@@ -19,6 +19,9 @@ PROGRAMS = (
     "checks/here.py",
     "tools/parts/__init__.py",
     "tools/parts/command.py",
+    "bin/hints/formats/__init__.py",
+    "bin/hints/formats/files.py",
+    "bin/hints/formats/texts.py",
     "tools/parts/crate_graph.py",
 )
 CRATES = "low:\nmiddle: low\ntop: middle csv\ntop_tests: top\nother: csv\n"
