@@ -9,6 +9,8 @@
 #define MOST_WINDOW (1LL << 40)
 #define MOST_MHZ 1000000
 #define NO_LIMIT 0x3fffffff
+#define MOST_BITS ((Long)(~0ULL >> 1)) /* of a number that VG_BHEX_CLO takes */
+_Static_assert(ALL_KINDS < 64, "each kind has a bit of MOST_BITS");
 
 /* The machine is tools/record's `skl`. */
 all_words words = {
@@ -86,9 +88,9 @@ static Bool take_lines(const HChar *word) {
 
 static Bool take_begin(const HChar *word) {
     Long address;
-    if (VG_BHEX_CLO(word, "--entry", address, 0, ~0UL)) {
+    if (VG_BHEX_CLO(word, "--entry", address, 0, MOST_BITS)) {
         words.entry = (Addr)address;
-    } else if (VG_BHEX_CLO(word, "--from", address, 0, ~0UL)) {
+    } else if (VG_BHEX_CLO(word, "--from", address, 0, MOST_BITS)) {
         words.from = (Addr)address;
     } else if (VG_BOOL_CLO(word, "--from-entry", words.from_entry)) {
     } else if (VG_BOOL_CLO(word, "--stopped", words.is_stopped)) {
@@ -109,7 +111,7 @@ static Bool take_totals(const HChar *word) {
         functions_take(name);
     } else if (VG_BOOL_CLO(word, "--profile", words.has_profile)) {
     } else if (VG_STR_CLO(word, "--process", words.process)) {
-    } else if (VG_BHEX_CLO(word, "--kinds", kinds, 0, ~0UL)) {
+    } else if (VG_BHEX_CLO(word, "--kinds", kinds, 0, MOST_BITS)) {
         words.kinds = (ULong)kinds;
         words.is_partial = True;
     } else return False;
