@@ -129,8 +129,8 @@ def _of_cores(l1d: tuple[int, int], l2: tuple[int, int], slice_kib: int, ways: i
     return _processor(l1d, FIRST, l2, (slice_kib * cores, ways), dtlb, itlb)
 
 
-# The first level of buffers, and the last cache of a processor with a number of cores that is a power of two, since that of its sets is one here, or of AMD's complex of cores, as the makers'
-# manuals and the processors' own answers to CPUID have them (checks/machines). What can't be said here is near it: buffers of spr and zen4 are fully associative.
+# The first level of buffers, and the last cache of a processor with a number of cores that is a power of two, since that of its sets is one here, or of AMD's complex of cores, by the numbers
+# in the makers' manuals. Eight were compared with what the processors answer to CPUID (checks/machines). What can't be said here is near it: buffers of spr and zen4 are fully associative.
 MACHINES = {
     "snb": _of_cores(FIRST, (256, 8), 2048, 16, 4, (128, 4)),
     "snb_ep": _of_cores(FIRST, (256, 8), 2560, 20, 8, (128, 4)),

@@ -105,6 +105,17 @@ class Words(unittest.TestCase):
         wanted = {name: [tuple(map(int, shape.option(part).split(",")[:2])) for part, shape in machine.shapes.items() if shape] for name, machine in MACHINES.items()}
         self.assertEqual(found, wanted)
 
+    def test_the_documents_say_which_machines_were_compared(self) -> None:
+        """docs/RECORDING.md: those of which checks/machines has answers to CPUID, and the others."""
+        check = (ROOT / "checks/machines").read_text(encoding="utf-8")
+        answered = re.findall(r'^    "(\w+)": "(?:Intel|AMD)-', check, re.MULTILINE)
+        page = (ROOT / "docs/RECORDING.md").read_text(encoding="utf-8")
+        told = page.partition("`checks/machines` compares eight ")[2].partition("\n\n")[0]
+        compared, others = (re.findall(r"`(\w+)`", part) for part in told.split("The other ten "))
+        self.assertEqual(compared, answered)
+        self.assertEqual(others, [name for name in MACHINES if name not in answered])
+        self.assertEqual((len(compared), len(others)), (8, 10))
+
     def test_the_machine_is_told_to_the_tool_and_to_the_library(self) -> None:
         machine = MACHINES["skl"].with_shapes({"l2": None})
         shapes = ["--l1d=512,8,64", "--l1i=512,8,64", "--l2=none", "--l3=131072,16,64", "--dtlb=64,4,4096", "--itlb=128,8,4096"]
