@@ -15,7 +15,9 @@ What `tools/record` and `tools/count` count for the events of a real processor, 
 Each event is a sum of these. Where an event has one of the sums below, it has each of its quantities.
 """
 SUMS = "\nAnd these sums have names:\n"
-NEVER = f"`{NOTHING}` never occurs in the model."
+NEVER = f"""\
+`{NOTHING}` never occurs in the model. Each row below is tried by a kernel in assembly, but for those of `{NOTHING}`, and those of 512 bits alone, which Valgrind does not run.
+`checks/kernels --processors` prints these for each processor, with the reason ([checks/README](../checks/README.md#kernels))."""
 COLUMNS = ("Event", "What is counted", "What the processor counts otherwise")
 
 

@@ -9,7 +9,7 @@ import unittest
 from collections import Counter
 from pathlib import Path
 
-from kernel_events import difference, meaning_of
+from kernel_events import difference, meaning_of, why_untried
 from kernel_files import Kernel, all_kernels, read_kernels
 from parts.command import Fault
 from parts.event_sums import Sum
@@ -147,6 +147,8 @@ class Meanings(unittest.TestCase):
             for row in table.rows.values():
                 kinds = tuple(kind for kind in row.quantities if kind != NOTHING)
                 self.assertEqual(sorted(meaning_of(row.name) or ()), sorted(kinds), (pmu, row.name))
+                wide = bool(kinds) and all(kind.endswith("_512") for kind in kinds)
+                self.assertEqual(bool(why_untried(row.name)), wide, (pmu, row.name))
         self.assertIsNone(meaning_of("UOPS_ISSUED:ANY"))
 
     def test_an_event_that_counts_something_else(self) -> None:
