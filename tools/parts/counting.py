@@ -19,7 +19,8 @@ from parts.command import Fault, tell
 from parts.elf_file import libraries_of
 from parts.machine import Machine
 from parts.started import temporary_folder
-from parts.whole import Outputs, Plan, Run, Whole, plan, tell_counts
+from parts.whole import Outputs, Plan, Run, plan, tell_counts
+from parts.whole_words import Whole
 
 FOLDER = Path(__file__).resolve().parent.parent.parent
 EXAMPLES = FOLDER / "examples"

@@ -25,6 +25,7 @@ from parts.processes import Process, numbered, read_processes
 from parts.profile_counts import ProfileCounts, as_further_json, profile_counts, profile_table
 from parts.profile_page.making import profile_page
 from parts.whole_counts import ProcessCounts, ThreadCounts, WholeCounts
+from parts.whole_words import Whole
 
 USUAL = (
     "PAPI_TOT_INS",
@@ -37,29 +38,6 @@ USUAL = (
     "PAPI_BR_MSP",
     "PAPI_FP_OPS",
 )
-
-
-@dataclass(frozen=True)
-class Whole:
-    """What is asked of a count of the whole program."""
-
-    is_beside: bool = False  # also beside the calls that the program makes
-    events: str | None = None  # with commas between them, or the usual ones
-    children: bool = False
-    table: str | None = None  # files, standard error without one
-    json: str | None = None
-    csv: str | None = None
-    functions: tuple[str, ...] = ()  # whose calls alone count
-    profile: bool = False
-    callgrind: str | None = None  # a file
-    page: str | None = None  # a file
-
-    def is_profiled(self) -> bool:
-        return self.profile or self.callgrind is not None or self.page is not None
-
-    def is_asked(self) -> bool:
-        """Whether somebody wants it, whatever the program does."""
-        return self != Whole(is_beside=self.is_beside)
 
 
 class Outputs:

@@ -3,9 +3,32 @@
 from __future__ import annotations
 
 import argparse
+from dataclasses import dataclass
 
 from parts.ranks import of_rank
-from parts.whole import Whole
+
+
+@dataclass(frozen=True)
+class Whole:
+    """What is asked of a count of the whole program."""
+
+    is_beside: bool = False  # also beside the calls that the program makes
+    events: str | None = None  # with commas between them, or the usual ones
+    children: bool = False
+    table: str | None = None  # files, standard error without one
+    json: str | None = None
+    csv: str | None = None
+    functions: tuple[str, ...] = ()  # whose calls alone count
+    profile: bool = False
+    callgrind: str | None = None  # a file
+    page: str | None = None  # a file
+
+    def is_profiled(self) -> bool:
+        return self.profile or self.callgrind is not None or self.page is not None
+
+    def is_asked(self) -> bool:
+        """Whether somebody wants it, whatever the program does."""
+        return self != Whole(is_beside=self.is_beside)
 
 
 def add_whole(parser: argparse.ArgumentParser) -> None:

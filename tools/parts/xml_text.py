@@ -3,7 +3,7 @@
 from __future__ import annotations
 
 import re
-from xml.sax.saxutils import escape
+from html import escape
 
 # What no document of XML 1.0 or HTML has: most control characters, halves of pairs, and two that are no characters. Those that change a line or hide what
 # stands in it are taken out too.
@@ -18,4 +18,4 @@ def fit(text: str) -> str:
 
 def xml_text(text: str) -> str:
     """A text as an element or an attribute of XML has it, on one line."""
-    return escape(SPACES.sub("\ufffd", fit(text)), {'"': "&quot;"})
+    return escape(SPACES.sub("\ufffd", fit(text)), quote=False).replace('"', "&quot;")
