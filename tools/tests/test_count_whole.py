@@ -4,14 +4,19 @@ hand."""
 from __future__ import annotations
 
 import os
+import shutil
 import signal
 import subprocess
+import sys
 from pathlib import Path
 
 from tests.support import TOOLS, needs_command
 from tests.whole import EXIT, LOOP, Whole, needs_papi
 
 INSTRUCTIONS = ("--events", "PAPI_TOT_INS")
+# What the first count of all runs.
+FIRST_TIME = ("sh", "cc", "as", "ld", "valgrind", "uname", "sed", "mktemp", "rm", "mv", "cat")
+FIRST_TIME += ("dirname", "env")
 
 
 @needs_command("valgrind", "valgrind")
@@ -341,6 +346,27 @@ class Refusals(Whole):
             f"count: {self.folder}/rows has none of the usual presets for mine: --events names "
             "others\n",
         )
+
+    def without(self, missing: str) -> str:
+        """What a first count says where this command is not installed."""
+        place = self.folder / f"without_{missing}"
+        place.mkdir()
+        for name in FIRST_TIME:
+            if name != missing:
+                (place / name).symlink_to(str(shutil.which(name)))
+        cache = str(self.folder / "cache")  # the tool is not built yet
+        environment = {**os.environ, "PATH": str(place), "XDG_CACHE_HOME": cache, "CC": "cc"}
+        words = [sys.executable, str(TOOLS / "count"), "-o", "table", "/bin/echo", "ran"]
+        done = subprocess.run(
+            words, env=environment, capture_output=True, text=True, cwd=self.folder
+        )
+        self.assertEqual((done.stdout, done.returncode), ("", 1))
+        return done.stderr
+
+    def test_what_is_not_installed(self) -> None:
+        for missing, package in (("cc", "gcc"), ("valgrind", "valgrind")):
+            said = f"count: {missing} is not installed (apt-get install {package})\n"
+            self.assertEqual(self.without(missing), said)
 
     def test_programs(self) -> None:
         self.assertEqual(self.refused("none"), "count: none: no such program\n")
