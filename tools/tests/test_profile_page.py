@@ -122,7 +122,7 @@ class Pages(Whole):
 
     def test_functions(self) -> None:
         page, found, _ = self.example()
-        table = page.find("table", class_="functions")[0]
+        table = page.find("table", class_="functions stack")[0]
         rows = table.find("tbody")[0].inner
         told = []
         for row in rows:
@@ -253,7 +253,7 @@ class Pages(Whole):
         self.assertEqual((count, wanted["put", "fill"]), (157, 157))
         self.assertEqual({each.given["class"] for each in boxes}, {"bar-of inlined"})
         told = {}
-        for row in page.find("table", class_="inner")[0].find("tbody")[0].inner:
+        for row in page.find("table", class_="inner stack")[0].find("tbody")[0].inner:
             name, function = (each.whole_text() for each in row.find("code"))
             told[name, function] = cells(row, 1)[0]
         self.assertEqual(told, wanted)

@@ -62,11 +62,17 @@ def sources_of(profile: ProfileCounts, first: str) -> list[Source]:
     return sorted(found.values(), key=lambda source: (-source.own(first), source.file))
 
 
-def pair(own: int, with_calls: int, number: int) -> list[Markup]:
-    """The cells of an event: nothing in place of 0."""
+def pair(own: int, with_calls: int, event: str, number: int) -> list[Markup]:
+    """The cells of an event: nothing in place of 0. On a narrow page each has its label."""
     return [
-        element("td", shown(count) if count else None, class_="number", data_event=number)
-        for count in (own, with_calls)
+        element(
+            "td",
+            shown(count) if count else None,
+            class_="number",
+            data_event=number,
+            data_label=label,
+        )
+        for count, label in ((own, event), (with_calls, "with calls"))
     ]
 
 
@@ -88,15 +94,15 @@ def _row(source: Source, number: int, events: Sequence[str]) -> Markup:
     text = texts[number - 1][:LONGEST] if 1 <= number <= len(texts) else ""
     shown_line = line or Line()
     cells = [
-        pair(shown_line.own[event], shown_line.with_calls(event), place)
+        pair(shown_line.own[event], shown_line.with_calls(event), event, place)
         for place, event in enumerate(events)
     ]
     told = plain(", ".join(sorted(line.functions))) if line and line.functions else None
     return element(
         "tr",
-        element("td", number, class_="number", title=told),
+        element("td", number, class_="number", title=told, data_label="line"),
         cells,
-        element("td", element("code", text) if text else None, class_="text"),
+        element("td", element("code", text) if text else None, class_="main"),
         class_="counts" if line else None,
     )
 
@@ -107,11 +113,11 @@ def _table(source: Source, numbers: Sequence[int], events: Sequence[str]) -> Mar
     rows: list[Markup] = []
     for before, number in zip((None, *numbers), numbers):
         if before is not None and number > before + 1:
-            gap = [pair(0, 0, place) for place in range(len(events))]
-            dots = element("td", "\u2026", class_="quiet")
+            gap = [pair(0, 0, event, place) for place, event in enumerate(events)]
+            dots = element("td", "\u2026", class_="main")
             rows.append(element("tr", element("td"), gap, dots, class_="gap"))
         rows.append(_row(source, number, events))
-    return table_of(head, rows, "source")
+    return table_of(head, rows, "source stack")
 
 
 def draw_sources(profile: ProfileCounts, events: Sequence[str], total: Counts) -> list[Markup]:

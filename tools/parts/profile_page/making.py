@@ -53,12 +53,12 @@ def _function_row(each: ProfiledFunction, events: Sequence[str], total: Counts) 
         share = 100 * each.own[event] / total[event] if total[event] else 0
         bar = element("div", class_="bar", style=f"width:{min(max(share, 0), 100):.2f}%")
         track = element("div", bar, class_="track", title=f"{share:.2f} %")
-        cells += pair(each.own[event], each.inclusive[event], number)
-        cells.append(element("td", track, data_event=number))
+        cells += pair(each.own[event], each.inclusive[event], event, number)
+        cells.append(element("td", track, data_event=number, data_label="share"))
     name = element("code", plain(each.name), title=plain(each.place()))
     place = element("small", plain(each.place().rpartition("/")[2]))
-    calls = element("td", shown(each.calls), class_="number")
-    return element("tr", element("td", name, " ", place), calls, cells)
+    calls = element("td", shown(each.calls), class_="number", data_label="calls")
+    return element("tr", element("td", name, " ", place, class_="main"), calls, cells)
 
 
 def _functions(profile: ProfileCounts, counts: WholeCounts) -> list[Markup]:
@@ -66,7 +66,7 @@ def _functions(profile: ProfileCounts, counts: WholeCounts) -> list[Markup]:
     of_events = [heads(event, number, "share") for number, event in enumerate(counts.events)]
     head = [element("th", "function", scope="col"), element("th", "calls", scope="col")]
     rows = [_function_row(each, counts.events, counts.total) for each in listed]
-    table = table_of([head, of_events], rows, "functions")
+    table = table_of([head, of_events], rows, "functions stack")
     return [table, *_left_out(len(profile.functions) - len(listed))]
 
 
@@ -77,12 +77,13 @@ def _left_out(number: int) -> list[Markup]:
 
 def _inlined_row(each: ProfiledInlined, events: Sequence[str]) -> Markup:
     cells = [
-        element("td", shown(each.own[event]), class_="number", data_event=number)
+        element(
+            "td", shown(each.own[event]), class_="number", data_event=number, data_label=event
+        )
         for number, event in enumerate(events)
     ]
-    names = [
-        element("td", element("code", plain(name))) for name in (each.name, each.function.name)
-    ]
+    function = element("td", element("code", plain(each.function.name)), data_label="in")
+    names = [element("td", element("code", plain(each.name)), class_="main"), function]
     return element("tr", names, cells)
 
 
@@ -95,7 +96,7 @@ def _inlined(profile: ProfileCounts, events: Sequence[str]) -> list[Markup]:
         for number, event in enumerate(events)
     ]
     rows = [_inlined_row(each, events) for each in profile.inlined[:MOST_INLINED]]
-    return [table_of(head, rows, "inner"), *_left_out(len(profile.inlined) - len(rows))]
+    return [table_of(head, rows, "inner stack"), *_left_out(len(profile.inlined) - len(rows))]
 
 
 def _sections(counts: WholeCounts, profile: ProfileCounts) -> list[Section]:

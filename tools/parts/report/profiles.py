@@ -88,7 +88,7 @@ def _bars(profile: Profile, places: Places) -> Markup:
             hits, file, line = found
             note = [f"{share(hits, bar.hits)} at ", element("code", f"{file.rpartition('/')[2]}:{line}", title=f"{file}:{line}")]
         rows.append(_row(element("code", bar.name), bar.hits, profile.total, note, "hottest", bar.kind))
-    return table_of(("function", "", "overflows", "share", "hottest"), rows, "bars")
+    return table_of(("function", "", "overflows", "share", "hottest"), rows, "bars stack")
 
 
 def _hottest_line(function: FunctionHits, places: Places) -> tuple[int, str, int] | None:
@@ -110,7 +110,7 @@ def _lines(place: Place, profile: Profile, places: Places) -> list[Markup]:
     lines = source_lines(places, [bucket for function in profile.functions for bucket in function.buckets])
     if not lines:
         return [element("p", "Lines of source are left out: the program has none for these addresses (compile it with -g).", class_="quiet")]
-    return [table_of(("line of source", "", "overflows", "share", ""), [_line_row(line, profile.total) for line in lines[:MOST_LINES]], "bars lines"),
+    return [table_of(("line of source", "", "overflows", "share", ""), [_line_row(line, profile.total) for line in lines[:MOST_LINES]], "bars lines stack"),
             *_left_out(len(lines) - MOST_LINES, "line")]
 
 
@@ -124,7 +124,7 @@ def _addresses(notes: Sequence[Note]) -> list[Markup]:
     found = Counter(note.address for note in notes)
     hottest = sorted(found.items(), key=lambda pair: (-pair[1], pair[0]))[:MOST_ADDRESSES]
     rows = [_row(element("code", address), hits, len(notes), "", "") for address, hits in hottest]
-    return [table_of(("address", "", "overflows", "share", ""), rows, "bars"), *_left_out(len(found) - MOST_ADDRESSES, "address", "addresses")]
+    return [table_of(("address", "", "overflows", "share", ""), rows, "bars stack"), *_left_out(len(found) - MOST_ADDRESSES, "address", "addresses")]
 
 
 def _left_out(number: int, word: str, words: str = "") -> list[Markup]:
