@@ -8,6 +8,7 @@ import shutil
 import signal
 import subprocess
 import sys
+from functools import partial
 from pathlib import Path
 
 from tests.support import TOOLS, needs_command
@@ -224,7 +225,9 @@ class Programs(Whole):
             (signal.SIGTERM, -signal.SIGTERM, ""),
         ):
             pipes = {"stdout": subprocess.PIPE, "stderr": subprocess.PIPE, "text": True}
-            with subprocess.Popen(command, env=environment, **pipes) as running:
+            # A shell has what it starts behind itself ignore SIGINT, which no trap undoes.
+            heard = partial(signal.signal, signal.SIGINT, signal.SIG_DFL)
+            with subprocess.Popen(command, env=environment, preexec_fn=heard, **pipes) as running:
                 assert running.stdout and running.stderr
                 self.assertEqual(running.stdout.readline(), "runs\n")
                 running.send_signal(number)

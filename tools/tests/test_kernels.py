@@ -14,7 +14,7 @@ from kernel_files import Kernel, all_kernels, read_kernels
 from parts.command import Fault
 from parts.event_sums import Sum
 from parts.processors import NOTHING, tables
-from tests.support import ROOT, InFolder, needs_command, needs_libpfm4, needs_program, some
+from tests.support import ROOT, InFolder, all_of, needs_command, needs_libpfm4, needs_program, some
 
 # What the processor's manuals and compilers have: each word is in some kernel's text.
 CLASSES = (
@@ -147,7 +147,7 @@ class Meanings(unittest.TestCase):
             for row in table.rows.values():
                 kinds = tuple(kind for kind in row.quantities if kind != NOTHING)
                 self.assertEqual(sorted(meaning_of(row.name) or ()), sorted(kinds), (pmu, row.name))
-                wide = bool(kinds) and all(kind.endswith("_512") for kind in kinds)
+                wide = bool(kinds) and all_of(kinds, lambda kind: kind.endswith("_512"))
                 self.assertEqual(bool(why_untried(row.name)), wide, (pmu, row.name))
         self.assertIsNone(meaning_of("UOPS_ISSUED:ANY"))
 
