@@ -41,7 +41,14 @@ def paragraphs(text: str) -> list[Paragraph]:
     return found
 
 
+MADE = {"out", "__pycache__"}  # folders of what is built
+
+
 def tracked() -> list[str]:
+    """The files of the repository, or of a copy of it that Git does not know."""
+    if not (ROOT / ".git").exists():
+        paths = (path.relative_to(ROOT) for path in ROOT.rglob("*") if path.is_file())
+        return some([str(path) for path in paths if not MADE & set(path.parts)])
     listed = subprocess.run(["git", "ls-files"], cwd=ROOT, check=True, capture_output=True, text=True)
     return some(listed.stdout.splitlines())
 
