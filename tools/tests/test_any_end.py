@@ -1,18 +1,16 @@
-"""Whatever ends a script or a tool, what it has started ends too, and no folder of it is left."""
+"""Whatever ends a script, what it has started ends too, and no folder of it is left."""
 
 from __future__ import annotations
 
 import os
 import resource
-import shutil
 import signal
 import subprocess
-import sys
 import time
 import unittest
 from contextlib import suppress
 from pathlib import Path
-from typing import Callable, Mapping, Sequence
+from typing import Callable, Sequence
 
 from tests.support import ROOT, TOOLS, InFolder, needs_command
 from tests.test_hints import PLACE, make_tree
@@ -169,38 +167,6 @@ class Builds(Ends):
         slow = self.slow("slow")
         for number in (signal.SIGUSR1, signal.SIGKILL):
             self.check_build(number, [str(TOOLS / "valgrind/build"), str(self.temporary / "tool")], CC=slow)
-
-
-class Tools(Ends):
-    def check_tool(self, words: Sequence[str], status: Mapping[int, int] = {}, **variables: str) -> None:
-        for number in ANY_END:
-            with self.subTest(number=number):
-                wanted = -number if number == signal.SIGKILL else 128 + number
-                self.assertEqual(self.check_end(number, words, **variables), wanted)
-
-    @needs_command("cc", "a C compiler")
-    def test_a_compiler(self) -> None:
-        slow = self.slow("slow", f'case $* in *probe.c*) ;; *) exec {shutil.which("cc")} "$@" ;; esac')
-        self.check_tool([str(TOOLS / "make_fortran"), "--check"], CC=slow)
-
-    def test_a_tool_of_a_report(self) -> None:
-        (self.folder / "bin").mkdir()
-        self.slow("bin/papi")
-        code = (
-            "import pathlib, sys\nfrom parts.command import end_with\nfrom parts.report import asking\nasking.ROOT = pathlib.Path(sys.argv[1])\n"
-            "def work():\n with asking.Tools(asking.Tables('unit')):\n  pass\nend_with('report', work)\n"
-        )
-        self.check_tool([sys.executable, "-B", "-c", code, str(self.folder)], PYTHONPATH=str(TOOLS))
-
-    def test_a_recorded_program(self) -> None:
-        """Here a slow program stands in the place of valgrind."""
-        code = (
-            "import sys\nfrom parts import recording, valgrind\nfrom parts.command import end_with\nfrom parts.machine import MACHINES\n"
-            "recording._words = lambda *any: []\nvalgrind.environment = lambda *any: None\nvalgrind.tool = lambda: None\n"
-            "valgrind.command = lambda words, path, arguments: [path]\n"
-            "def work():\n recording.record(recording.Wanted(sys.argv[1], [], MACHINES['skl']), 'stream', '')\nend_with('record', work)\n"
-        )
-        self.check_tool([sys.executable, "-B", "-c", code, self.slow("slow")], PYTHONPATH=str(TOOLS))
 
 
 if __name__ == "__main__":
