@@ -7,7 +7,7 @@ import re
 
 from parts.processors import NOTHING, Row
 
-LOAD, STORE = r"\bloads?\b|data read|\bread", r"\bstores?\b|\brfo\b|state change"
+LOAD, STORE = r"\bloads?\b|data read|\bread", r"\bstores?\b|\brfos?\b|state change"
 FETCH = r"code|instruction|i-?cache|\bic\b"
 TLB = r"tlb|page walk|\bwalk"
 # By the words of a row: what its description has, each of these, and what it has not.
@@ -24,15 +24,18 @@ RULES: dict[str, tuple[tuple[str, ...], str]] = {
     "load_hits": ((r"load", r"l1", r"hit"), r"miss"),
     "l1d_load_misses": ((r"load", r"l1", r"miss"), r""),
     "l1d_load_misses l1d_store_misses": ((r"l1|data cache", r"replace|miss|fill"), ""),
-    "l1i_misses": ((r"instruction cache|l1i", r"miss"), ""),
+    "l1i_misses": ((r"instruction (?:l1 )?cache|l1i", r"miss"), ""),
     "l2_load_hits": ((LOAD, r"hit|l2", r"l2|mid-level"), r"miss|rfo|store|code"),
     "l2_store_hits": ((STORE, r"hit"), r"miss|code read"),
     "l2_fetch_hits": ((FETCH, r"hit|fulfilled|refill|fetch"), r"miss|data read"),
-    "l2_load_misses": ((LOAD + r"|l2", r"miss|uncore|offcore"), r"rfo|store|code"),
+    "l2_load_misses": (
+        (LOAD + r"|l2", r"miss|uncore|offcore|demand and prefetch data reads"),
+        r"rfo|store|code",
+    ),
     "l2_store_misses": ((STORE, r"miss|demand rfo|uncore"), r"code read"),
     "l2_fetch_misses": ((FETCH, r"miss|system memory|code read"), r"data read|hit"),
     "l2_loads": ((r"data (?:cache )?read|demand data", r"l2|request"), r"miss|hit"),
-    "l2_stores": ((STORE, r"l2|request"), r"miss|\bhit"),
+    "l2_stores": ((STORE, r"l2|request|access cache lines"), r"miss|\bhit"),
     "l2_fetches": ((FETCH, r"l2"), r"\bhit"),
     "l2_misses": ((r"l2", r"miss|fill"), ""),
     "l2_loads l2_stores l2_fetches": ((r"l2", r"request"), r"miss"),
@@ -40,7 +43,10 @@ RULES: dict[str, tuple[tuple[str, ...], str]] = {
         (r"miss", r"data cache|readblock", r"l2|all types|miss\."),
         "",
     ),
-    "l3_load_hits": ((r"load", r"hit", r"l3|llc"), r"miss"),
+    "l2_load_hits l2_store_hits": ((r"fill|data cache|refill", r"local l2"), r"dram"),
+    "l3_load_hits l3_store_hits": ((r"fill|data cache", r"\bl3\b|cache"), r"dram|different node"),
+    "l3_load_misses l3_store_misses": ((r"dram",), r"remote|different node"),
+    "l3_load_hits": ((r"load", r"hit", r"l3|llc|last-level"), r"miss"),
     "l3_load_misses": ((r"load|data read|dram|last-level", r"l3|llc|dram|cache"), ""),
     "l3_accesses": ((r"refer|access", r"l3|llc|last.level|core-originated"), ""),
     "l3_misses": ((r"miss", r"l3|llc|last.level"), ""),
@@ -50,7 +56,7 @@ RULES: dict[str, tuple[tuple[str, ...], str]] = {
     "itlb_misses": ((r"itlb|code miss|instruction", r"miss|walk", TLB + r"|4kb"), r"\bload"),
     "locked_loads": ((r"load", r"lock"), ""),
     "split_loads": ((r"load", r"split|cross|misaligned"), r"4kb"),
-    "split_stores": ((r"store", r"split"), ""),
+    "split_stores": ((r"store|\bsta\b", r"split"), ""),
     "conditional": ((r"condition",), r"mispred"),
     "branches": ((r"branch",), r"mispred"),
     "taken": ((r"taken", r"branch"), r"mispred|not taken"),
@@ -91,7 +97,13 @@ RULES: dict[str, tuple[tuple[str, ...], str]] = {
             "fused": r"multiply-add",
         }.items()
     },
-    NOTHING: ((r"page|tlb|shared|modifiable|2m|1g|exclusive|large|non-modif",), ""),
+    NOTHING: (
+        (
+            r"page|tlb|shared|modifiable|2m|1g|exclusive|large|non-modif|writable|remote|"
+            r"different|extension",
+        ),
+        "",
+    ),
 }
 # Descriptions that say less or something else than the event's name, by the name.
 KNOWN = {

@@ -30,6 +30,7 @@ VECTORS = "double_128 single_128 double_256 single_256 double_512 single_512"
 ELEMENTS = {"ADD_SUB": "added", "MULT": "multiplied", "DIV": "divided", "M(?:AC|ULT_ADD)": "fused"}
 INTEL = r"MEM_(?:INST|UOPS?)_RETIRED:"
 L2_OF_AMD = "CORE_TO_L2_CACHEABLE_REQUEST_ACCESS_STATUS:"
+FILLS = r"(?:(?:ANY|DEMAND)_DATA_CACHE_FILLS|DATA_CACHE_REFILLS)_FROM_SYSTEM:(?:LS_)?(?:MABRESP_)?"
 MEANINGS = {
     r"INST_RETIRED:(?:ANY|ANY_P|ALL|PREC_DIST)|INSTRUCTIONS?_RETIRED|RETIRED_INSTRUCTIONS":
         "instructions",
@@ -45,33 +46,36 @@ MEANINGS = {
     r"DTLB_STORE_MISSES:WALK_COMPLETED(?:_4K)?": "dtlb_store_misses",
     r"L1_DTLB_MISS:TLB_RELOAD_4K_L2_MISS": "dtlb_load_misses dtlb_store_misses",
     r"ITLB_MISSES:(?:MISS_)?CAUSES_A_WALK|ITLB_MISSES:WALK_COMPLETED(?:_4K)?|"
-    r"L1_ITLB_MISS_L2_ITLB_MISS:IF4K": "itlb_misses",
+    r"FRONTEND_RETIRED:(?:ITLB|STLB)_MISS|L1_ITLB_MISS_L2_ITLB_MISS:IF4K": "itlb_misses",
     INTEL + r"LOCK_LOADS": "locked_loads",
-    INTEL + r"SPLIT_LOADS|MISALIGNED_LOADS:MA64": "split_loads",
-    INTEL + r"SPLIT_STORES": "split_stores",
+    INTEL + r"SPLIT_LOADS|MISALIGN_MEM_REF:LOADS|MISALIGNED_LOADS:MA64": "split_loads",
+    INTEL + r"SPLIT_STORES|MISALIGN_MEM_REF:STORES": "split_stores",
     r"MEM_LOAD_(?:UOPS_)?RETIRED:L1_HIT": "load_hits",
     r"MEM_LOAD_(?:UOPS_)?RETIRED:L1_MISS|MEM_LOAD_COMPLETED:L1_MISS_ANY": "l1d_load_misses",
     r"MEM_LOAD_(?:UOPS_)?RETIRED:L2_HIT": "l2_load_hits",
     r"MEM_LOAD_(?:UOPS_)?RETIRED:L2_MISS": "l2_load_misses",
-    r"MEM_LOAD_(?:UOPS_)?RETIRED:L3_HIT": "l3_load_hits",
+    r"MEM_LOAD_(?:UOPS_)?RETIRED:L3_HIT|MEM_LOAD_(?:UOPS_)?L(?:3|LC)_HIT_RETIRED:XSNP_NONE":
+        "l3_load_hits",
     r"MEM_LOAD_(?:UOPS_)?RETIRED:L3_MISS|MEM_LOAD_(?:UOPS_)?MISC_RETIRED:LLC_MISS|"
     r"MEM_LOAD_(?:UOPS_)?L(?:3|LC)_MISS_RETIRED:LOCAL_DRAM|"
     r"OFFCORE_REQUESTS:L3_MISS_DEMAND_DATA_RD": "l3_load_misses",
     r"MEM_STORE_RETIRED:L2_HIT": "l2_store_hits",
     r"L1D:REPLACEMENT": "l1d_load_misses l1d_store_misses",
-    r"ICACHE:MISSES|ICACHE_64B:IFTAG_MISS|IC_TAG_HIT_MISS:IC_MISS": "l1i_misses",
+    r"ICACHE:MISSES|ICACHE_64B:IFTAG_MISS|FRONTEND_RETIRED:L1I_MISS|IC_TAG_HIT_MISS:IC_MISS":
+        "l1i_misses",
     r"L2_RQSTS:(?:DEMAND_DATA_RD_HIT|ALL_DEMAND_RD_HIT)|" + L2_OF_AMD + "LS_RD_BLK_L_HIT_X":
         "l2_load_hits",
-    r"L2_RQSTS:DEMAND_DATA_RD_MISS|OFFCORE_REQUESTS:DEMAND_DATA_RD": "l2_load_misses",
+    r"L2_RQSTS:DEMAND_DATA_RD_MISS|OFFCORE_REQUESTS:(?:DEMAND_|ALL_)?DATA_RD": "l2_load_misses",
     r"L2_RQSTS:ALL_DEMAND_DATA_RD|L2_TRANS:(?:LOAD|D(?:E)?MA?ND_DATA_RD)|"
     r"REQUESTS_TO_L2_GROUP1:RD_BLK_L": "l2_load_hits l2_load_misses",
     r"L2_RQSTS:(?:DEMAND_)?RFO_HITS?|" + L2_OF_AMD + "LS_RD_BLK_X": "l2_store_hits",
-    r"L2_RQSTS:(?:DEMAND_)?RFO_MISS|OFFCORE_REQUESTS:DEMAND_RFO": "l2_store_misses",
-    r"L2_RQSTS:(?:ALL_RFO|RFO_ANY)|L2_TRANS:RFO|REQUESTS_TO_L2_GROUP1:RD_BLK_X":
-        "l2_store_hits l2_store_misses",
+    r"L2_RQSTS:(?:DEMAND_)?RFO_MISS|L2_STORE_LOCK_RQSTS:MISS|OFFCORE_REQUESTS:DEMAND_RFO":
+        "l2_store_misses",
+    r"L2_RQSTS:(?:ALL_RFO|RFO_ANY)|L2_STORE_LOCK_RQSTS:ALL|L2_TRANS:RFO|"
+    r"REQUESTS_TO_L2_GROUP1:RD_BLK_X": "l2_store_hits l2_store_misses",
     r"L2_RQSTS:CODE_RD_HIT|INSTRUCTION_CACHE_REFILLS_FROM_L2|" + L2_OF_AMD + "IC_FILL_HIT_S":
         "l2_fetch_hits",
-    r"L2_RQSTS:CODE_RD_MISS|OFFCORE_REQUESTS:DEMAND_CODE_RD|"
+    r"L2_RQSTS:CODE_RD_MISS|OFFCORE_REQUESTS:DEMAND_CODE_RD|FRONTEND_RETIRED:L2_MISS|"
     r"INSTRUCTION_CACHE_REFILLS_FROM_SYSTEM|" + L2_OF_AMD + "IC_FILL_MISS": "l2_fetch_misses",
     r"L2_RQSTS:ALL_CODE_RD|L2_TRANS:CODE_RD|REQUESTS_TO_L2_GROUP1:CACHEABLE_IC_READ":
         "l2_fetch_hits l2_fetch_misses",
@@ -80,7 +84,10 @@ MEANINGS = {
     L2_OF_AMD + "LS_RD_BLK_C": "l2_load_misses l2_store_misses",
     r"LONGEST_LAT_CACHE:REFERENCES?|(?:LLC|LAST_LEVEL_CACHE)_REFERENCES":
         f"l3_load_hits l3_store_hits l3_fetch_hits {L3_MISSES}",
-    r"LONGEST_LAT_CACHE:MISS|LLC_MISSES": L3_MISSES,
+    r"LONGEST_LAT_CACHE:MISS|(?:LLC|LAST_LEVEL_CACHE)_MISSES": L3_MISSES,
+    FILLS + "LCL_L2": "l2_load_hits l2_store_hits",
+    FILLS + "(?:LCL_CACHE|INT_CACHE|LOCAL_CCX)": "l3_load_hits l3_store_hits",
+    FILLS + "(?:LCL_DRAM|MEM_IO_LCL|DRAM_IO_NEAR)": "l3_load_misses l3_store_misses",
     r"BR_INST_(?:RETIRED|EXEC):ALL_BRANCHES|BRANCH_INSTRUCTIONS_RETIRED|"
     r"RETIRED_BRANCH_INSTRUCTIONS": BRANCHES,
     r"BR_INST_(?:RETIRED|EXEC):(?:ALL_|ANY_)?COND(?:ITIONAL)?|"
@@ -134,10 +141,12 @@ MEANINGS = {
         f"{kind}_{form}" for kind in ELEMENTS.values() for form in ("doubles", "singles")
     ),
 }
-# What the model has not: larger pages, a second level of buffers, shared and changed lines.
+# What the model has not: larger pages, a second level of buffers, shared and changed lines, other
+# nodes.
 NEVER = re.compile(
     r"[DI]TLB_\w+:(?:LARGE_(?:PAGE_)?)?WALK_COMPLETED(?:_2M_4M|_1G)?|L1_DTLB_MISS:TLB_RELOAD_\w+|"
-    r"L1_ITLB_MISS_L2_ITLB_\w+(?::\w+)?|" + L2_OF_AMD + r"(?:\w+_S|\w+_X|LS_RD_BLK_C_S)"
+    r"L1_ITLB_MISS_L2_ITLB_\w+(?::\w+)?|REQUESTS_TO_L2_GROUP1:(?:LS_RD_BLK_C_S|CHANGE_TO_X)|"
+    + FILLS + r"(?:RMT_\w+|EXT_\w+|\w+_RMT|\w+_FAR)|" + L2_OF_AMD + r"(?:\w+_S|\w+_X)"
 )
 # Events that no kernel can make count, by what they need.
 UNTRIED = {

@@ -1,12 +1,15 @@
 """PAPI's presets over the unit of each processor's table: those that are available count of each
 kernel what PAPI's description of the preset says, or stand below with what PAPI's own formula for
-that processor counts otherwise."""
+that processor counts otherwise. The program knows some of them; tools/preset_rows makes user events
+of the others, under their names without `PAPI_`, and so a program in C has them all."""
 
 from __future__ import annotations
 
 import re
+import subprocess
 from pathlib import Path
 
+from here import ROOT
 from kernel_events import BRANCHES, L3_MISSES, WRONG, Judged, counts_of
 from kernel_files import OPERATIONS, Kernel
 
@@ -18,8 +21,10 @@ from parts.papi_program import ask_program
 
 PRESETS = Path("/usr/share/papi/7.0/papi_events.csv")  # Debian's package papi-tools
 L2_DATA = "l2_load_hits l2_store_hits l2_load_misses l2_store_misses"
+L2_FETCHES = "l2_fetch_hits l2_fetch_misses"
 SINGLES = "scalar_single single_128*4 single_256*8 single_512*16"
 DOUBLES = "scalar_double double_128*2 double_256*4 double_512*8"
+DOUBLE_INSTRUCTIONS = "scalar_double double_128 double_256 double_512"
 # By PAPI's descriptions (papi_avail): kinds, each with a factor if that is not 1.
 MEANINGS = {
     "TOT_INS": "instructions",
@@ -29,6 +34,7 @@ MEANINGS = {
     "LD_INS": "loads",
     "SR_INS": "stores",
     "LST_INS": "loads stores",
+    "L1_DCA": "loads stores",
     "L1_DCM": "l1d_load_misses l1d_store_misses",
     "L1_ICM": "l1i_misses",
     "L1_TCM": "l1d_load_misses l1d_store_misses l1i_misses",
@@ -43,11 +49,11 @@ MEANINGS = {
     "L2_DCR": "l2_load_hits l2_load_misses",
     "L2_DCW": "l2_store_hits l2_store_misses",
     "L2_DCH": "l2_load_hits l2_store_hits",
-    "L2_ICA": "l2_fetch_hits l2_fetch_misses",
-    "L2_ICR": "l2_fetch_hits l2_fetch_misses",
+    "L2_ICA": L2_FETCHES,
+    "L2_ICR": L2_FETCHES,
     "L2_ICH": "l2_fetch_hits",
-    "L2_TCA": L2_DATA + " l2_fetch_hits l2_fetch_misses",
-    "L2_TCR": "l2_load_hits l2_load_misses l2_fetch_hits l2_fetch_misses",
+    "L2_TCA": f"{L2_DATA} {L2_FETCHES}",
+    "L2_TCR": f"l2_load_hits l2_load_misses {L2_FETCHES}",
     "L2_TCW": "l2_store_hits l2_store_misses",
     "L3_DCA": "l2_load_misses l2_store_misses",
     "L3_DCR": "l2_load_misses",
@@ -59,6 +65,8 @@ MEANINGS = {
     "L3_TCW": "l2_store_misses",
     "L3_TCM": L3_MISSES,
     "L3_LDM": "l3_load_misses",
+    "CA_CLN": "l2_store_misses",
+    "CA_SHR": "l2_load_misses",
     "TLB_DM": "dtlb_load_misses dtlb_store_misses",
     "TLB_IM": "itlb_misses",
     "BR_UCN": "jumps calls returns",
@@ -76,13 +84,38 @@ MEANINGS = {
     "VEC_DP": "double_128*2 double_256*4 double_512*8",
 }
 ZEN = r"amd64_fam1[79]h_zen\d"
+BRIDGES = r"(?:snb|ivb)(?:_ep)?"
+WELLS_AND_LAKES = r"(?:hsw|bdw)(?:_ep)?|skl|skx|clx|icx"
+SKYLAKES = "skl|skx|clx"
+
+
+def elements(*does: str, forms: tuple[str, ...] = ("doubles", "singles")) -> str:
+    """What AMD's processors count of operations: each element of a vector."""
+    return " ".join(f"{kind}_{form}" for kind in does or OPERATIONS for form in forms)
+
+
 # What PAPI's file computes for some processors in place of that: by which PMUs, and what it is.
 OTHERWISE = {
     ("BR_TKN", ZEN): "conditional_taken jumps calls returns",  # AMD has no event of these alone
-    ("FP_OPS", r"(?:snb|ivb)(?:_ep)?"): "scalar_double scalar_single x87",  # and none of vectors
-    ("FP_OPS", ZEN): " ".join(  # AMD's FLOPS, which have no maxima, reciprocals and dot products
-        f"{operation}_{form}" for operation in OPERATIONS for form in ("doubles", "singles")
-    ),
+    ("FP_OPS", BRIDGES): "scalar_double scalar_single x87",  # and none of vectors
+    ("FP_INS", BRIDGES): "scalar_double scalar_single x87",
+    # AMD's FLOPS, which have no maxima, reciprocals and dot products, in place of instructions.
+    **{(name, ZEN): elements() for name in ("FP_OPS", "FP_INS", "VEC_INS")},
+    ("DP_OPS", ZEN): elements(forms=("doubles",)),
+    ("SP_OPS", ZEN): elements(forms=("singles",)),
+    ("FAD_INS", ZEN): elements("added"),
+    ("FML_INS", ZEN): elements("multiplied"),
+    **{(name, ZEN): elements("divided") for name in ("FDV_INS", "FSQ_INS")},  # and both are one
+    ("L2_DCH", r"amd64_fam17h_zen\d"): "l2_load_hits",
+    ("L2_DCR", "amd64_fam19h_zen3"): L2_DATA,  # with stores
+    # An instruction on a vector is one, and one on a single element is one of these too.
+    ("VEC_DP", "bdw(?:_ep)?|skl|skx|clx|icx"): DOUBLE_INSTRUCTIONS,
+    ("VEC_SP", "bdw(?:_ep)?|skl|skx|clx|icx"): DOUBLE_INSTRUCTIONS.replace("double", "single"),
+    # What is asked for on demand has fetches in it, and PAPI adds them once more.
+    ("L2_DCA", WELLS_AND_LAKES): f"{L2_DATA} {L2_FETCHES}",
+    ("L2_TCA", WELLS_AND_LAKES): f"{L2_DATA} l2_fetch_hits*2 l2_fetch_misses*2",
+    # Two names of one event.
+    **{(name, SKYLAKES): "l2_store_hits*2" for name in ("L2_DCW", "L2_TCW")},
 }
 
 
@@ -101,13 +134,22 @@ def has_presets(pmu: str) -> bool:
     return re.search(rf"^CPU,{pmu}$", PRESETS.read_text(encoding="ascii"), re.MULTILINE) is not None
 
 
-def available(pmu: str, unit: str) -> list[str]:
-    """As papi_avail lists them."""
-    words = ("-U", unit, "-P", str(PRESETS), "-C", pmu, "-a")
-    done = ask_program("papi_avail", *words)
+def with_others(folder: Path) -> str:
+    """PAPI's file with user events for the presets that the program does not know."""
+    presets = folder / "presets"
+    with open(presets, "w", encoding="ascii") as file:
+        words = [str(ROOT / "tools/preset_rows"), str(PRESETS)]
+        subprocess.run(words, check=True, stdout=file, stderr=subprocess.DEVNULL)
+    return str(presets)
+
+
+def available(pmu: str, unit: str, presets: str) -> list[str]:
+    """Of which papi_decode says that they can be counted, by the names of this file."""
+    words = ("-U", unit, "-P", presets, "-C", pmu, "-a")
+    done = ask_program("papi_decode", *words)
     if done.returncode:
-        raise Fault(f"papi_avail {' '.join(words)}: status {done.returncode}: {done.stderr}")
-    return re.findall(r"^(PAPI_\w+) +0x\w+ +Yes ", done.stdout, re.MULTILINE)
+        raise Fault(f"papi_decode {' '.join(words)}: status {done.returncode}: {done.stderr}")
+    return re.findall(r"^(?:PRESET|EVENT),(\w+),", done.stdout, re.MULTILINE)
 
 
 def value_of(each: Sum, counts: dict[str, int]) -> int | None:
@@ -117,11 +159,11 @@ def value_of(each: Sum, counts: dict[str, int]) -> int | None:
     return added_up(each.weights, counts)
 
 
-def judge_presets(pmu: str, unit: str, kernels: list[Kernel]) -> Judged:
+def judge_presets(pmu: str, unit: str, presets: str, kernels: list[Kernel]) -> Judged:
     judged = Judged()
-    names = available(pmu, unit)
+    names = available(pmu, unit, presets)
     kinds = kinds_with(codes_of(unit))
-    sums = sums_of(Files(unit, str(PRESETS), pmu), names, kinds)
+    sums = sums_of(Files(unit, presets, pmu), names, kinds)
     for each in sums:
         meaning = weights_of(each.name, pmu)
         found = "no meaning is written for it" if meaning is None else ""

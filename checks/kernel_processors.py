@@ -7,7 +7,7 @@ from typing import Callable
 
 from kernel_events import Judged, judge_events, make_unit
 from kernel_files import ELEMENTS, MISSES, NAMES, Kernel
-from kernel_presets import PRESETS, has_presets, judge_presets
+from kernel_presets import PRESETS, has_presets, judge_presets, with_others
 
 from parts.codes import codes_of
 from parts.command import counted
@@ -58,6 +58,7 @@ def compare_processors(
     pmus: list[str], kernels: list[Kernel], folder: Path, recorder: Recorder, tally: Tally
 ) -> None:
     recorded: list[Table] = []  # one unit of each table
+    presets = with_others(folder) if PRESETS.exists() else ""
     for pmu in pmus:
         unit = make_unit(pmu, folder)
         if tables()[pmu] not in recorded:
@@ -66,9 +67,9 @@ def compare_processors(
         judged = judge_events(pmu, unit, kernels)
         judge_all(pmu, judged, tally)
         print(f"{pmu}: {told(judged, 'event')}", flush=True)
-        if not PRESETS.exists() or not has_presets(pmu):
+        if not presets or not has_presets(pmu):
             print(f"{pmu}: no presets: {PRESETS} has none for it", flush=True)
             continue
-        judged = judge_presets(pmu, unit, kernels)
+        judged = judge_presets(pmu, unit, presets, kernels)
         judge_all(f"{pmu}, preset", judged, tally)
         print(f"{pmu}: {told(judged, 'preset')}", flush=True)
