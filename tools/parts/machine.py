@@ -6,7 +6,7 @@ from dataclasses import dataclass, field, replace
 
 from parts.command import Fault
 
-MOST_WAYS = 64
+MOST_WAYS = 128
 MOST_LINES = 1 << 24
 MOST_COST = 10_000
 PREDICTOR_BITS = range(1, 25)
@@ -130,7 +130,7 @@ def _of_cores(l1d: tuple[int, int], l2: tuple[int, int], slice_kib: int, ways: i
 
 
 # The first level of buffers, and the last cache of a processor with a number of cores that is a power of two, since that of its sets is one here, or of AMD's complex of cores, by the numbers
-# in the makers' manuals. Eight were compared with what the processors answer to CPUID (checks/machines). What can't be said here is near it: buffers of spr and zen4 are fully associative.
+# in the makers' manuals. checks/machines compares them with what the processors answer to CPUID.
 MACHINES = {
     "snb": _of_cores(FIRST, (256, 8), 2048, 16, 4, (128, 4)),
     "snb_ep": _of_cores(FIRST, (256, 8), 2560, 20, 8, (128, 4)),
@@ -145,11 +145,11 @@ MACHINES = {
     "clx": _of_cores(FIRST, (1024, 16), 1408, 11, 16),
     "icl": _of_cores((48, 12), (512, 8), 2048, 16, 4),
     "icx": _of_cores((48, 12), (1280, 20), 1536, 12, 16),
-    "spr": _of_cores((48, 12), (2048, 16), 1920, 15, 16, (256, 8), (96, 48)),
+    "spr": _of_cores((48, 12), (2048, 16), 1920, 15, 16, (256, 8)),
     "zen1": _processor(FIRST, (64, 4), (512, 8), (8192, 16), (64, 64), (64, 64)),
     "zen2": _processor(FIRST, FIRST, (512, 8), (16384, 16), (64, 64), (64, 64)),
     "zen3": _processor(FIRST, FIRST, (512, 8), (32768, 16), (64, 64), (64, 64)),
-    "zen4": _processor(FIRST, FIRST, (1024, 8), (32768, 16), (72, 36), (64, 64)),
+    "zen4": _processor(FIRST, FIRST, (1024, 8), (32768, 16), (72, 72), (64, 64)),
 }
 
 

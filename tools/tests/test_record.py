@@ -17,10 +17,10 @@ from parts import valgrind
 from parts.codes import codes_of
 from parts.command import Fault
 from parts.counting import Counting, _changes
-from parts.machine import MACHINES, Shape, machine_name, read_buffer, read_cache, read_costs, read_predictor
+from parts.machine import MACHINES, MOST_WAYS, Shape, machine_name, read_buffer, read_cache, read_costs, read_predictor
 from parts.processors import tables
 from parts.ranks import of_rank
-from tests.support import ROOT, TOOLS, InFolder, all_of, needs_command, needs_libpfm4, needs_program, run_program, run_tool, some
+from tests.support import ROOT, TOOLS, InFolder, needs_command, needs_libpfm4, needs_program, run_program, run_tool, some
 
 
 class UnderValgrind(InFolder):
@@ -71,12 +71,18 @@ class Words(unittest.TestCase):
         self.assertEqual(read_buffer("64,4,4096"), Shape(64, 4, 4096))
         self.assertEqual(read_cache("64,1,64"), Shape(1, 1, 64))
         self.assertIsNone(read_cache("none"))
-        for text in ("32768", "a,8,64", "0,8,64", "1000,8,64", "768,4,64", "384,2,48", "65536,128,64"):
+        for text in ("32768", "a,8,64", "0,8,64", "1000,8,64", "768,4,64", "384,2,48", "131072,256,64"):
             with self.assertRaises(Fault, msg=text):
                 read_cache(text)
         for text in ("", "64,4", "48,4,4096", "64,4,5000"):
             with self.assertRaises(Fault, msg=text):
                 read_buffer(text)
+
+    def test_the_tool_has_the_same_limits(self) -> None:
+        header = (ROOT / "tools/valgrind/machine.h").read_text(encoding="utf-8")
+        self.assertIn(f"#define MOST_WAYS {MOST_WAYS}\n", header)
+        most = max(shape.ways for machine in MACHINES.values() for shape in machine.shapes.values() if shape)
+        self.assertEqual((most, MOST_WAYS), (72, 128))
 
     def test_costs_and_predictors(self) -> None:
         self.assertEqual(read_costs("1,2,3,4,5"), (1, 2, 3, 4, 5))
@@ -104,17 +110,6 @@ class Words(unittest.TestCase):
             found.update({name.strip("`"): shapes for name in names.split(", ")})
         wanted = {name: [tuple(map(int, shape.option(part).split(",")[:2])) for part, shape in machine.shapes.items() if shape] for name, machine in MACHINES.items()}
         self.assertEqual(found, wanted)
-
-    def test_the_documents_say_which_machines_were_compared(self) -> None:
-        """docs/RECORDING.md: those of which checks/machines has answers to CPUID, and the others."""
-        check = (ROOT / "checks/machines").read_text(encoding="utf-8")
-        answered = re.findall(r'^    "(\w+)": "(?:Intel|AMD)-', check, re.MULTILINE)
-        page = (ROOT / "docs/RECORDING.md").read_text(encoding="utf-8")
-        told = page.partition("`checks/machines` compares eight ")[2].partition("\n\n")[0]
-        compared, others = (re.findall(r"`(\w+)`", part) for part in told.split("The other ten "))
-        self.assertEqual(compared, answered)
-        self.assertEqual(others, [name for name in MACHINES if name not in answered])
-        self.assertEqual((len(compared), len(others)), (8, 10))
 
     def test_the_machine_is_told_to_the_tool_and_to_the_library(self) -> None:
         machine = MACHINES["skl"].with_shapes({"l2": None})

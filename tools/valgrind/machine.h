@@ -6,7 +6,7 @@
 #include <stddef.h>
 #include <stdint.h>
 
-#define MOST_WAYS 64
+#define MOST_WAYS 128
 #define MOST_LINES (1u << 24)
 #define MOST_PREDICTOR_BITS 24
 
