@@ -7,6 +7,7 @@ import io
 import os
 import signal
 import sys
+import time
 from contextlib import contextmanager, suppress
 from pathlib import Path
 from types import FrameType
@@ -18,6 +19,8 @@ from formats.texts import plain
 BY_SIGNAL = 128  # what a status adds to the number of a signal
 MOST_BYTES = 1 << 27  # of a file that is read as a whole
 LONGEST_LINE = 1 << 20  # bytes, of standard input
+MOMENT = 0.5  # seconds in which a signal to all of a job has come to each
+SOON = 0.01  # seconds
 # All that end a process, but for those that can't be caught, that Python ignores, or that tell of a fault of its own.
 ENDING_SIGNALS = tuple(sorted(
     signal.valid_signals() - {signal.SIGKILL, signal.SIGSTOP, signal.SIGTSTP, signal.SIGTTIN, signal.SIGTTOU, signal.SIGCHLD, signal.SIGCONT, signal.SIGURG, signal.SIGWINCH}
@@ -40,42 +43,66 @@ def own_name() -> str:
     return Path(sys.argv[0]).name
 
 
-class _Deferred:
-    """A signal that came while nothing may come in between."""
+class _Signal:
+    """What is known of the signal that ends this process."""
 
-    depth = 0
-    number: int | None = None
+    depth = 0  # of what it may not interrupt
+    deferred: int | None = None
+    taken: int | None = None
 
 
 def _end_by_signal(number: int, frame: FrameType | None) -> None:
-    if _Deferred.depth:
-        _Deferred.number = number
+    if _Signal.depth:
+        _Signal.deferred = number
         return
+    _Signal.taken = number
     for other in ENDING_SIGNALS:
         signal.signal(other, signal.SIG_IGN)
+    _raise_end(number)
+
+
+def _raise_end(number: int) -> NoReturn:
     if number == signal.SIGINT:
         raise KeyboardInterrupt
     sys.exit(BY_SIGNAL + number)
 
 
+def _end_again(lost: sys.UnraisableHookArgs) -> None:
+    """An end that came in a finalizer, from which nothing is raised, comes once more."""
+    number = _Signal.taken
+    if number is None or not isinstance(lost.exc_value, (SystemExit, KeyboardInterrupt)):
+        sys.__unraisablehook__(lost)
+        return
+    signal.signal(signal.SIGALRM, lambda *_: _raise_end(number))
+    signal.setitimer(signal.ITIMER_REAL, SOON)
+
+
 def end_by_termination() -> None:
     """From now on any signal that ends the process does so with a status, so that what it has started and made ends too. One that is ignored stays so, and
     while the process ends no other one comes in between."""
+    sys.unraisablehook = _end_again
     for number in ENDING_SIGNALS:
         if signal.getsignal(number) != signal.SIG_IGN:
             signal.signal(number, _end_by_signal)
 
 
+def heed_signal(status: int) -> None:
+    """What this process waited for has ended with a status, or by a signal whose number is below 0. One that ended it may be for all of a job, and come here a moment later:
+    then this process ends by it too, and says nothing of what it waited for."""
+    if (-status if status < 0 else status - BY_SIGNAL) in ENDING_SIGNALS:
+        time.sleep(MOMENT)
+
+
 @contextmanager
 def uninterrupted() -> Iterator[None]:
     """A signal to end that comes in this block acts at its end: what the block begins is known then, and can be ended."""
-    _Deferred.depth += 1
+    _Signal.depth += 1
     try:
         yield
     finally:
-        _Deferred.depth -= 1
-    if _Deferred.number is not None and not _Deferred.depth:
-        _end_by_signal(_Deferred.number, None)
+        _Signal.depth -= 1
+    if _Signal.deferred is not None and not _Signal.depth:
+        _end_by_signal(_Signal.deferred, None)
 
 
 class _Output(io.FileIO):

@@ -5,9 +5,10 @@ from __future__ import annotations
 import os
 import signal
 import subprocess
+from contextlib import suppress
 from typing import Any, Sequence
 
-from parts.command import Fault, uninterrupted
+from parts.command import Fault, heed_signal, uninterrupted
 from parts.started import ends_with_parent
 
 ENDING_SECONDS = 2
@@ -31,6 +32,7 @@ def run_group(command: Sequence[str], number: int = signal.SIGTERM, text: str = 
         if child is not None:
             _end(child)
         raise
+    heed_signal(child.returncode)
     return subprocess.CompletedProcess(command, child.returncode, out, err)
 
 
@@ -44,18 +46,17 @@ def run_compiler(*words: str, text: str = "") -> subprocess.CompletedProcess[str
 
 
 def _end(child: subprocess.Popen[str]) -> None:
-    """Ends a command and what it has started. At first they may remove what they have made."""
+    """Ends a command and what it has started. At first they may remove what they have made. Nothing is read any more: what was interrupted may have begun with that."""
     for number in (signal.SIGTERM, signal.SIGKILL):
-        try:
+        with suppress(ProcessLookupError, subprocess.TimeoutExpired):
             os.killpg(child.pid, number)
-        except ProcessLookupError:
+            child.wait(ENDING_SECONDS)
             break
-        try:
-            child.communicate(timeout=ENDING_SECONDS)
-            break
-        except (subprocess.TimeoutExpired, ValueError):
-            continue
     child.wait()
+    for stream in (child.stdin, child.stdout, child.stderr):
+        with suppress(OSError):
+            if stream is not None:
+                stream.close()
 
 
 def cause(text: str) -> str:

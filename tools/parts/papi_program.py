@@ -6,8 +6,9 @@ from __future__ import annotations
 import subprocess
 from pathlib import Path
 
-from parts.command import Fault
+from parts.command import Fault, heed_signal
 from parts.compiler import run_group
+from parts.started import ends_with_parent
 
 FOLDER = Path(__file__).resolve().parent.parent.parent / "bin"  # an installation has links there
 UNPROVED = "papi: the proved program"
@@ -17,12 +18,16 @@ def prepare_program() -> None:
     """In a repository it is compiled, if it is not there: that takes a minute or two, and says
     so."""
     script = FOLDER / "papi"
-    if (
-        script.exists()
-        and subprocess.run(
-            [str(script), "--compile"], stdin=subprocess.DEVNULL, stdout=subprocess.DEVNULL
-        ).returncode
-    ):
+    if not script.exists():
+        return
+    status = subprocess.run(
+        [str(script), "--compile"],
+        stdin=subprocess.DEVNULL,
+        stdout=subprocess.DEVNULL,
+        preexec_fn=ends_with_parent(),
+    ).returncode
+    if status:
+        heed_signal(status)
         raise Fault("the program papi, which says what an event counts, is not there")
 
 

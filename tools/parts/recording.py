@@ -13,7 +13,7 @@ from typing import IO, Mapping
 
 from parts import valgrind
 from parts.codes import RECORDED, Codes
-from parts.command import Fault, Progress, uninterrupted
+from parts.command import Fault, Progress, heed_signal, uninterrupted
 from parts.machine import Machine
 from parts.started import ends_with_parent
 from parts.symbols import entry_of, read_functions
@@ -108,6 +108,7 @@ def record(wanted: Wanted, stream: str | None, label: str) -> Recorded:
                 process.wait()
             raise
     if not recorded.totals and not recorded.has_ended_early() and recorded.status != -signal.SIGKILL:
+        heed_signal(recorded.status)
         raise Fault(f"{wanted.program} can't be run under valgrind (status {recorded.status})")
     return recorded
 

@@ -1,17 +1,22 @@
-"""Whatever ends a script, what it has started ends too, and no folder of it is left."""
+"""Whatever ends a script or a tool, what it has started ends too, and no folder of it is left."""
 
 from __future__ import annotations
 
 import os
 import resource
+import shutil
 import signal
 import subprocess
+import sys
 import time
 import unittest
 from contextlib import suppress
 from pathlib import Path
-from typing import Callable, Sequence
+from types import FrameType
+from typing import Any, Callable, NoReturn, Sequence
 
+from parts.command import BY_SIGNAL, end_with
+from parts.compiler import run_group
 from tests.support import ROOT, TOOLS, InFolder, needs_command
 from tests.test_hints import PLACE, make_tree
 from tests.test_hints_running import is_alive
@@ -29,6 +34,21 @@ ANY_END = (
     signal.SIGRTMIN + 3,
     signal.SIGRTMAX,
     signal.SIGKILL,
+)
+
+REPORT = (
+    "import pathlib, sys\nfrom parts.command import end_with\nfrom parts.report import asking\nasking.ROOT = pathlib.Path(sys.argv[1])\n"
+    "def work():\n with asking.Tools(asking.Tables('unit')):\n  pass\nend_with('report', work)\n"
+)
+RECORD = (
+    "import sys\nfrom parts import recording, valgrind\nfrom parts.command import end_with\nfrom parts.machine import MACHINES\n"
+    "recording._words = lambda *any: []\nvalgrind.environment = lambda *any: None\nvalgrind.tool = lambda: None\n"
+    "valgrind.command = lambda words, path, arguments: [path]\n"
+    "def work():\n recording.record(recording.Wanted(sys.argv[1], [], MACHINES['skl']), '/dev/null', '')\nend_with('record', work)\n"
+)
+PROGRAM = (
+    "import pathlib, sys\nfrom parts import papi_program\nfrom parts.command import end_with\n"
+    "papi_program.FOLDER = pathlib.Path(sys.argv[1])\nend_with('count', papi_program.prepare_program)\n"
 )
 
 
@@ -167,6 +187,111 @@ class Builds(Ends):
         slow = self.slow("slow")
         for number in (signal.SIGUSR1, signal.SIGKILL):
             self.check_build(number, [str(TOOLS / "valgrind/build"), str(self.temporary / "tool")], CC=slow)
+
+
+class Tools(Ends):
+    def check_tool(self, words: Sequence[str], **variables: str) -> None:
+        for number in ANY_END:
+            with self.subTest(number=number):
+                wanted = -number if number == signal.SIGKILL else BY_SIGNAL + number
+                self.assertEqual(self.check_end(number, words, **variables), wanted)
+
+    @needs_command("cc", "a C compiler")
+    def test_a_compiler(self) -> None:
+        slow = self.slow("slow", f'case $* in *probe.c*) ;; *) exec {shutil.which("cc")} "$@" ;; esac')
+        self.check_tool([str(TOOLS / "make_fortran"), "--check"], CC=slow)
+
+    def test_a_tool_of_a_report(self) -> None:
+        (self.folder / "bin").mkdir()
+        self.slow("bin/papi")
+        self.check_tool([sys.executable, "-B", "-c", REPORT, str(self.folder)], PYTHONPATH=str(TOOLS))
+
+    def test_a_recorded_program(self) -> None:
+        """Here a slow program stands in the place of valgrind."""
+        self.check_tool([sys.executable, "-B", "-c", RECORD, self.slow("slow")], PYTHONPATH=str(TOOLS))
+
+    def test_a_signal_to_all_of_a_job(self) -> None:
+        """It ends what a tool waits for first, and comes to the tool a moment later."""
+        closed = " ".join(f"{number}>&-" for number in range(10))
+        path = Path(self.write("ended", f"#!/bin/sh\n(sleep 0.2; kill -USR1 $PPID) {closed} &\nkill -USR1 $$\n"))
+        path.chmod(0o755)
+        (self.folder / "bin").mkdir()
+        shutil.copy(path, self.folder / "bin/papi")
+        for words in (
+            [str(TOOLS / "make_fortran"), "--check"],
+            [sys.executable, "-B", "-c", REPORT, str(self.folder)],
+            [sys.executable, "-B", "-c", RECORD, str(path)],
+            [sys.executable, "-B", "-c", PROGRAM, str(self.folder / "bin")],
+        ):
+            environment = {**os.environ, "CC": str(path), "PYTHONPATH": str(TOOLS), "TMPDIR": str(self.temporary)}
+            done = subprocess.run(words, env=environment, stdin=subprocess.DEVNULL, capture_output=True, timeout=PATIENCE)
+            with self.subTest(words=words):
+                self.assertEqual((done.returncode, done.stdout, done.stderr), (BY_SIGNAL + signal.SIGUSR1, b"", b""))
+
+    def test_an_end_that_comes_in_a_finalizer(self) -> None:
+        code = (
+            "import signal, time\nfrom parts.command import end_with\n"
+            "class Last:\n def __del__(self):\n  signal.raise_signal(signal.SIGUSR2)\n"
+            f"def work():\n last = Last()\n del last\n time.sleep({PATIENCE})\nend_with('tool', work)\n"
+        )
+        environment = {**os.environ, "PYTHONPATH": str(TOOLS)}
+        done = subprocess.run([sys.executable, "-B", "-c", code], env=environment, capture_output=True, timeout=SLOW)
+        self.assertEqual((done.returncode, done.stderr), (BY_SIGNAL + signal.SIGUSR2, b""))
+
+
+class Lines(Ends):
+    """A signal that comes before any line of what a tool runs while it waits for a command."""
+
+    WATCHED = ("compiler.py", "subprocess.py")
+    LAST = 99  # the status of a process that has no such line
+
+    def in_child(self, number: int) -> NoReturn:
+        """Sends itself a signal before a line with this number. The command goes on until it is ended."""
+        seen = 0
+
+        def trace(frame: FrameType, event: str, argument: Any) -> Any:
+            nonlocal seen
+            if os.path.basename(frame.f_code.co_filename) not in self.WATCHED:
+                return None
+            seen += event == "line"
+            if event == "line" and seen == number:
+                sys.settrace(None)
+                frame.f_trace = None
+                signal.raise_signal(signal.SIGUSR1)
+            return trace
+
+        def work() -> None:
+            sys.settrace(trace)
+            run_group(["/bin/sh", "-c", f'echo $$ >"{self.process}"; exec sleep 2'])
+            os._exit(self.LAST)
+
+        status = 1
+        try:
+            by_default()
+            os.dup2(os.open(os.devnull, os.O_WRONLY), 2)
+            end_with("tool", work)
+        except SystemExit as end:
+            status = end.code if isinstance(end.code, int) else 1
+        finally:
+            os._exit(status)
+
+    def status_of_line(self, number: int) -> int:
+        process = os.fork()
+        if not process:
+            self.in_child(number)
+        return os.waitstatus_to_exitcode(os.waitpid(process, 0)[1])
+
+    def test_each_line(self) -> None:
+        number, status = 1, 0
+        while status != self.LAST:
+            self.process.unlink(missing_ok=True)
+            status = self.status_of_line(number)
+            text = self.process.read_text() if self.process.exists() else ""
+            if text.strip():
+                self.assertTrue(within(PATIENCE, lambda: not is_alive(int(text))), number)
+            self.assertIn(status, (BY_SIGNAL + signal.SIGUSR1, self.LAST), number)
+            number += 1
+        self.assertGreater(number, 100)
 
 
 if __name__ == "__main__":

@@ -10,7 +10,7 @@ from pathlib import Path
 from typing import Iterable, Mapping, Sequence
 
 from formats.files import Unread, read_lines
-from parts.command import Fault, uninterrupted
+from parts.command import Fault, heed_signal, uninterrupted
 from parts.started import ends_with_parent, temporary_folder
 
 ROOT = Path(__file__).resolve().parents[3]
@@ -55,6 +55,7 @@ def _answer_of(command: Sequence[str], environment: Mapping[str, str], to: int |
             with child:
                 child.terminate()
         raise
+    heed_signal(child.returncode)
     return Answer(child.returncode, *(output.decode("utf-8", "surrogateescape").splitlines() for output in (out, errors or b"")))
 
 

@@ -10,7 +10,7 @@ from contextlib import AbstractContextManager, nullcontext, suppress
 from datetime import date
 from pathlib import Path
 
-from parts.command import Fault, own_name, tell, uninterrupted
+from parts.command import Fault, heed_signal, own_name, tell, uninterrupted
 from parts.compiler import run_group
 from parts.started import ends_with_parent
 from parts.unproved.keeping import locked, put, remove_old
@@ -61,6 +61,7 @@ def _unproved_archive() -> Path:
             child.terminate()
             child.wait()
     if child.returncode:
+        heed_signal(child.returncode)
         raise Fault("there is no library to count with (--library names its folder)")
     return Path(path)
 
