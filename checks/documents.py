@@ -9,6 +9,22 @@ from pathlib import Path
 
 from here import ROOT
 
+MOST_CELL = 200
+MARK = re.compile(r"<!-- (tools|checks)/\w+: (begin|end)")
+NUMBER = (
+    r"(?:\d[\d.,]*|half an?|one|two|three|four|five|six|seven|eight|nine|ten|twenty|thirty|fifty"
+    r"|some|several)"
+)
+TIME = r"(?:(?:milli|micro|nano)?seconds?|minutes?|hours?|ms|ns|µs)"
+SPEED = r"(?:[KMG]i?B/s|GHz|times (?:as (?:long|much|fast|slow|often)|slower|faster|longer))"
+FIGURE = re.compile(
+    rf"\b{NUMBER}(?:(?: to| or|-) ?{NUMBER})? ?(?:{TIME}|{SPEED})\b"
+    r"|(?<!once )\ban? (?:minute|hour)\b"
+    rf"|\b{NUMBER} \w+ (?:a|per) second\b"
+    rf"|\b{NUMBER} (?:%|per cent) (?:slower|faster|longer)\b",
+    re.IGNORECASE,
+)
+
 
 @dataclass(frozen=True)
 class Shown:
@@ -70,6 +86,44 @@ def prose_of(path: Path) -> list[tuple[int, str]]:
         elif not fenced:
             lines.append((number, line))
     return lines
+
+
+def by_hand(path: Path) -> list[tuple[int, str]]:
+    """The numbered lines that are in no fenced block, and not between the marks of programs."""
+    lines, is_made = [], False
+    for number, line in prose_of(path):
+        if MARK.match(line):
+            is_made = ": begin" in line
+        elif not is_made:
+            lines.append((number, line))
+    return lines
+
+
+def words_of(path: Path) -> int:
+    """How many words were written by hand, outside of code. A mark as `|` is none."""
+    lines = (line for _, line in by_hand(path))
+    return sum(1 for line in lines for word in line.split() if re.search(r"\w", word))
+
+
+def long_cells(path: Path) -> list[tuple[int, int]]:
+    """The lines with cells over MOST_CELL characters, and how many. Targets of links do not count."""
+    found = []
+    for number, line in by_hand(path):
+        if line.startswith("|"):
+            seen = re.sub(r"\]\([^)]*\)", "]", line.strip().strip("|"))
+            longest = max(len(cell.strip()) for cell in re.split(r"(?<!\\)\|", seen))
+            if longest > MOST_CELL:
+                found.append((number, longest))
+    return found
+
+
+def figures_in(path: Path) -> list[tuple[int, str, int]]:
+    """Times, rates and their ratios: the line, the figure, and where its table begins, or 0."""
+    found, table = [], 0
+    for number, line in by_hand(path):
+        table = (table or number) if line.startswith("|") else 0
+        found += [(number, match[0], table) for match in FIGURE.finditer(line)]
+    return found
 
 
 def links_of(path: Path) -> list[tuple[int, str]]:
