@@ -34,14 +34,15 @@ CODE = {
     f"{EVENTS}/perf_event.h": "is_counter_pair has_amd_brs is_pebs_pt is_ht_workaround_enabled intel_pmu_has_bts_period intel_pmu_has_bts",
     f"{EVENTS}/core.c": "x86_pmu_extra_regs x86_setup_perfctr x86_pmu_hw_config sched_state perf_sched perf_sched_init perf_sched_save_state perf_sched_restore_state "
     "__perf_sched_find_counter perf_sched_find_counter perf_sched_next_event perf_assign_events x86_schedule_events add_nr_metric_event collect_event",
-    f"{EVENTS}/intel/core.c": "intel_nehalem_event_constraints[] intel_nehalem_extra_regs[] intel_westmere_event_constraints[] intel_westmere_extra_regs[] "
+    f"{EVENTS}/intel/core.c": "intel_core2_event_constraints[] intel_gen_event_constraints[] intel_slm_event_constraints[] intel_slm_extra_regs[] intel_glm_extra_regs[] "
+    "intel_knl_extra_regs[] intel_tnt_extra_regs[] intel_nehalem_event_constraints[] intel_nehalem_extra_regs[] intel_westmere_event_constraints[] intel_westmere_extra_regs[] "
     "intel_snb_event_constraints[] intel_ivb_event_constraints[] intel_snb_extra_regs[] intel_snbep_extra_regs[] intel_hsw_event_constraints[] intel_bdw_event_constraints[] "
     "intel_skl_event_constraints[] intel_skl_extra_regs[] intel_icl_event_constraints[] intel_icl_extra_regs[] intel_spr_event_constraints[] intel_spr_extra_regs[] "
     "intel_bts_constraints intel_vlbr_constraints intel_alt_er intel_fixup_er __intel_shared_reg_get_constraints __intel_shared_reg_put_constraints intel_shared_regs_constraints "
     "x86_get_event_constraints __intel_get_event_constraints intel_start_scheduling intel_commit_scheduling intel_stop_scheduling dyn_constraint intel_get_excl_constraints "
     "intel_get_event_constraints intel_put_excl_constraints intel_put_shared_regs_event_constraints intel_put_event_constraints intel_pmu_bts_config is_available_metric_event "
     "is_mem_loads_event is_mem_loads_aux_event require_mem_loads_aux_event intel_pmu_has_cap intel_pmu_hw_config hsw_hw_config counter0_constraint counter2_constraint "
-    "fixed0_constraint hsw_get_event_constraints icl_get_event_constraints spr_get_event_constraints intel_ht_bug fixup_ht_bug intel_pmu_check_num_counters "
+    "fixed0_constraint fixed0_counter0_constraint tnt_get_event_constraints hsw_get_event_constraints icl_get_event_constraints spr_get_event_constraints intel_ht_bug fixup_ht_bug intel_pmu_check_num_counters "
     "intel_pmu_check_event_constraints intel_pmu_check_extra_regs",
     f"{EVENTS}/amd/core.c": "amd_get_event_code amd_is_pair_event_code amd_core_hw_config amd_pmu_hw_config pair_constraint amd_get_event_constraints_f17h "
     "amd_put_event_constraints_f17h",
@@ -64,19 +65,22 @@ class Core:
     counters: int
     fixed: int
     counters_alone: int = 0  # of a core with one thread, if they are others
+    threads: int = 2
 
 
-def _intel(model: str, counters: int = 4, fixed: int = 3, alone: int = 0) -> Core:
-    return Core(6, f"INTEL_FAM6_{model}", counters, fixed, alone)
+def _intel(model: str, counters: int = 4, fixed: int = 3, alone: int = 0, threads: int = 2) -> Core:
+    return Core(6, f"INTEL_FAM6_{model}", counters, fixed, alone, threads)
 
 
 CORES = {
+    "core": _intel("CORE2_MEROM", 2, threads=1), "atom": _intel("ATOM_BONNELL", 2), "slm": _intel("ATOM_SILVERMONT", 2, threads=1),
+    "glm": _intel("ATOM_GOLDMONT", threads=1), "tmt": _intel("ATOM_TREMONT", threads=1), "knl": _intel("XEON_PHI_KNL", 2, threads=4), "knm": _intel("XEON_PHI_KNM", 2, threads=4),
     "nhm": _intel("NEHALEM_EP"), "nhm_ex": _intel("NEHALEM_EX"), "wsm": _intel("WESTMERE"), "wsm_dp": _intel("WESTMERE_EP"),
     "snb": _intel("SANDYBRIDGE", alone=8), "snb_ep": _intel("SANDYBRIDGE_X", alone=8), "ivb": _intel("IVYBRIDGE", alone=8), "ivb_ep": _intel("IVYBRIDGE_X", alone=8),
     "hsw": _intel("HASWELL", alone=8), "hsw_ep": _intel("HASWELL_X", alone=8), "bdw": _intel("BROADWELL", alone=8), "bdw_ep": _intel("BROADWELL_X", alone=8),
     "skl": _intel("SKYLAKE", alone=8), "skx": _intel("SKYLAKE_X", alone=8), "clx": _intel("SKYLAKE_X", alone=8),
     "icl": _intel("ICELAKE", 8, 4), "icx": _intel("ICELAKE_X", 8, 4), "spr": _intel("SAPPHIRERAPIDS_X", 8, 4),
-    "amd64_fam17h_zen1": Core(0x17, "0x01", 6, 0), "amd64_fam17h_zen2": Core(0x17, "0x31", 6, 0), "amd64_fam19h_zen3": Core(0x19, "0x21", 6, 0),
+    "amd64_fam17h_zen1": Core(0x17, "0x01", 6, 0), "amd64_fam17h_zen2": Core(0x17, "0x31", 6, 0), "amd64_fam19h_zen3": Core(0x19, "0x21", 6, 0), "amd64_fam19h_zen4": Core(0x19, "0x11", 6, 0),
 }
 
 
@@ -201,7 +205,7 @@ class Scheduler:
         model = self.models.get(core.model) if core.model.startswith("INTEL") else int(core.model, 16)
         if model is None:
             raise Fault(f"{core.model}: this Linux has no such model")
-        words = [f"{core.family:x}", f"{model:x}", str(counters or self.counters(pmu, threads)), str(core.fixed), "2" if threads else "1"]
+        words = [f"{core.family:x}", f"{model:x}", str(counters or self.counters(pmu, threads)), str(core.fixed), str(core.threads if threads else 1)]
         lines = "".join(" ".join(f"{code:x}:{value:x}" for code, value in each) + "\n" for each in sets)
         done = subprocess.run([str(self.program), *words, *([f"{held:x}"] if held is not None else [])], input=lines, capture_output=True, text=True)
         answers = done.stdout.splitlines()

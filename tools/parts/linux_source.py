@@ -25,7 +25,7 @@ SLOTS = 3
 ROW = re.compile(r"^\s*([A-Z_]+)\(([^)]*)\)", re.MULTILINE)
 PASSED_OVER = ("METRIC_EVENT_CONSTRAINT",)  # of metrics, which are no events of a counter
 EXCLUSIVE = ("INTEL_EXCLEVT_CONSTRAINT", "INTEL_EXCLUEVT_CONSTRAINT")  # the errata BJ122, BV98 and HSD29
-REGISTER_ROW = re.compile(r"^\s*INTEL_UEVENT_(PEBS_LDLAT_)?EXTRA_REG\((0x[0-9a-f]+)(?:, *(\w+), *\w+, *(\w+))?\)", re.MULTILINE)
+REGISTER_ROW = re.compile(r"^\s*INTEL_UEVENT_(PEBS_LDLAT_)?EXTRA_REG\((0x[0-9a-f]+)(?:, *\w+, *(0x[0-9a-f]+)u*l*, *(\w+))?\)", re.MULTILINE)
 OFFCORE = ("RSP_0", "RSP_1")  # either register serves the events of both
 PAIR_FUNCTION = re.compile(r"\bamd_is_pair_event_code\(.*?^\}", re.DOTALL | re.MULTILINE)
 PAIR = re.compile(r"case (0x[0-9a-f]+):\s*return true;")
@@ -33,18 +33,22 @@ PAIR = re.compile(r"case (0x[0-9a-f]+):\s*return true;")
 
 @dataclass(frozen=True)
 class Processor:
-    """Where the source of Linux has what it says of a PMU of libpfm4: the folder of perf's files, and the tables of counters and of registers if there are some."""
+    """Where the source of Linux has what it says of a PMU of libpfm4: the folder of perf's files, and the tables of counters and of registers if there are some. Linux 6.1 has no files of
+    some processors."""
 
-    folder: str
+    folder: str | None
     table: str | None = None
     registers: str | None = None
 
 
-def _intel(name: str, registers: str, *rows: tuple[str, str]) -> dict[str, Processor]:
-    return {pmu: Processor(folder, f"intel_{name}_event_constraints", f"intel_{registers}_extra_regs") for pmu, folder in rows}
+def _intel(name: str, registers: str | None, *rows: tuple[str, str | None]) -> dict[str, Processor]:
+    return {pmu: Processor(folder, f"intel_{name}_event_constraints", registers and f"intel_{registers}_extra_regs") for pmu, folder in rows}
 
 
 PROCESSORS: dict[str, Processor] = {
+    **_intel("core2", None, ("core", None)), **_intel("gen", None, ("atom", "bonnell")),
+    **_intel("slm", "slm", ("slm", "silvermont")), **_intel("slm", "glm", ("glm", "goldmont")), **_intel("slm", "tnt", ("tmt", "elkhartlake")),
+    **_intel("slm", "knl", ("knl", "knightslanding"), ("knm", "knightslanding")),
     **_intel("nehalem", "nehalem", ("nhm", "nehalemep"), ("nhm_ex", "nehalemex")),
     **_intel("westmere", "westmere", ("wsm", "westmereep-sp"), ("wsm_dp", "westmereep-dp")),
     **_intel("snb", "snb", ("snb", "sandybridge")), **_intel("snb", "snbep", ("snb_ep", "jaketown")),
@@ -57,6 +61,7 @@ PROCESSORS: dict[str, Processor] = {
     "amd64_fam17h_zen1": Processor("amdzen1"),
     "amd64_fam17h_zen2": Processor("amdzen2"),
     "amd64_fam19h_zen3": Processor("amdzen3"),
+    "amd64_fam19h_zen4": Processor(None),
 }
 
 
@@ -101,10 +106,14 @@ class ConstraintTable:
 
 @dataclass(frozen=True)
 class Registers:
-    """The codes of events of which each needs a register with a value of its own, and how many such registers a core has."""
+    """The codes of events of which each needs a register with a value of its own, how many such registers a core has, and the bits that Linux takes there by code."""
 
     codes: frozenset[int]
     count: int
+    valid: tuple[tuple[int, int], ...] = ()
+
+    def takes(self, code: int, value: int) -> bool:
+        return all(of != code or not value & ~bits for of, bits in self.valid)
 
 
 def _table(name: str, kind: str, table: str) -> str:
@@ -120,14 +129,16 @@ def read_registers(name: str, table: str) -> tuple[Registers, ...]:
     """The registers that events share, by a table of the kernel's source."""
     codes: dict[str, set[int]] = {}
     counts: dict[str, set[str]] = {}
+    valid: dict[str, list[tuple[int, int]]] = {}
     for match in REGISTER_ROW.finditer(_table(name, "extra_reg", table)):
         register = "LDLAT" if match[1] else match[4]
         group = OFFCORE[0] if register in OFFCORE else register
         codes.setdefault(group, set()).add(int(match[2], 16))
         counts.setdefault(group, set()).add(register)
+        valid.setdefault(group, []).extend([(int(match[2], 16), int(match[3], 16))] if match[3] else [])
     if not codes:
         raise Fault(f"{name}: {table} has no row")
-    return tuple(Registers(frozenset(codes[group]), len(counts[group])) for group in codes)
+    return tuple(Registers(frozenset(codes[group]), len(counts[group]), tuple(valid[group])) for group in codes)
 
 
 def read_pairs(name: str) -> frozenset[int]:
@@ -183,13 +194,18 @@ def find_sources(folder: str, pmu: str) -> Sources:
     if pmu not in PROCESSORS:
         raise Fault(f"--linux: it is not known where Linux has {pmu} (known: {' '.join(sorted(PROCESSORS))})")
     processor = PROCESSORS[pmu]
-    files = sorted(str(path) for path in (Path(folder) / EVENT_FILES / processor.folder).glob("*.json"))
-    if not files:
-        raise Fault(f"{folder}/{EVENT_FILES}/{processor.folder}: no event files, so this is no source of Linux with perf's tables")
+    files = _event_files(folder, processor.folder) if processor.folder else []
     if processor.table is None:
         return Sources(files if _names_counters(files) else [], None, pairs=read_pairs(str(Path(folder) / AMD_TABLES)))
     tables = str(Path(folder) / TABLES)
-    return Sources(files, read_constraints(tables, processor.table), read_registers(tables, str(processor.registers)))
+    return Sources(files, read_constraints(tables, processor.table), read_registers(tables, processor.registers) if processor.registers else ())
+
+
+def _event_files(folder: str, inner: str) -> list[str]:
+    files = sorted(str(path) for path in (Path(folder) / EVENT_FILES / inner).glob("*.json"))
+    if not files:
+        raise Fault(f"{folder}/{EVENT_FILES}/{inner}: no event files, so this is no source of Linux with perf's tables")
+    return files
 
 
 def _names_counters(files: list[str]) -> bool:

@@ -257,6 +257,8 @@ class Converter:
             raise LeftOut("the code counts for any thread of a core, and a stream is one thread's own")
         if coded.special & 0xFFFFFFFF & ~SAYABLE_BITS:
             raise LeftOut("the code sets a bit that is no modifier of a unit")
+        if self.kernel and len(coded.codes) > 1 and not all(group.takes(coded.special & 0xFFFF, coded.codes[1]) for group in self.kernel.registers):
+            raise LeftOut("Linux refuses the value of its register")
         return coded
 
     def _coded_umasks(self, event: Event) -> list[CodedUmask]:

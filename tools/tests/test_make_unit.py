@@ -192,10 +192,10 @@ static inline bool amd_is_pair_event_code(struct hw_perf_event *hwc)
 
 
 # Of Linux, in tools/perf/pmu-events/arch/x86.
-FOLDERS = ("amdzen1 amdzen2 amdzen3 broadwell broadwellx cascadelakex haswell haswellx icelake icelakex ivybridge ivytown jaketown nehalemep nehalemex sandybridge sapphirerapids skylake "
-           "skylakex westmereep-dp westmereep-sp").split()
+FOLDERS = ("amdzen1 amdzen2 amdzen3 bonnell broadwell broadwellx cascadelakex elkhartlake goldmont haswell haswellx icelake icelakex ivybridge ivytown jaketown knightslanding knightslanding "
+           "nehalemep nehalemex sandybridge sapphirerapids silvermont skylake skylakex westmereep-dp westmereep-sp").split()
 # Of arch/x86/events/intel/core.c.
-TABLES = "bdw hsw icl ivb nehalem skl snb spr westmere".split()
+TABLES = "bdw core2 gen hsw icl ivb nehalem skl slm snb spr westmere".split()
 
 
 class Processors(unittest.TestCase):
@@ -205,24 +205,29 @@ class Processors(unittest.TestCase):
         self.assertEqual(some(name for name in PROCESSORS if name in known), list(PROCESSORS))
 
     def test_where_linux_has_each(self) -> None:
-        self.assertEqual(sorted(each.folder for each in PROCESSORS.values()), FOLDERS)
+        self.assertEqual(sorted(each.folder for each in PROCESSORS.values() if each.folder), FOLDERS)
         self.assertEqual(sorted({each.table for each in PROCESSORS.values() if each.table}), [f"intel_{name}_event_constraints" for name in TABLES])
         for pmu, folder, table, registers in (("skx", "skylakex", "skl", "skl"), ("wsm_dp", "westmereep-dp", "westmere", "westmere"), ("ivb", "ivybridge", "ivb", "snb"),
-                                              ("ivb_ep", "ivytown", "ivb", "snbep"), ("icx", "icelakex", "icl", "icl"), ("hsw", "haswell", "hsw", "snbep")):
+                                              ("ivb_ep", "ivytown", "ivb", "snbep"), ("icx", "icelakex", "icl", "icl"), ("hsw", "haswell", "hsw", "snbep"),
+                                              ("tmt", "elkhartlake", "slm", "tnt")):
             self.assertEqual(PROCESSORS[pmu], Processor(folder, f"intel_{table}_event_constraints", f"intel_{registers}_extra_regs"))
         self.assertEqual(PROCESSORS["amd64_fam17h_zen2"], Processor("amdzen2"))
+        for pmu, none in (("core", Processor(None, "intel_core2_event_constraints")), ("amd64_fam19h_zen4", Processor(None))):
+            self.assertEqual(PROCESSORS[pmu], none)
 
 
-class KernelTables(InFolder):
+class KernelSource(InFolder):
     """The macros are those of Linux, arch/x86/events/perf_event.h."""
 
-    def source(self, table: str) -> str:
-        for name, text in (("arch/x86/events/intel/core.c", table + REGISTER_TABLE), ("tools/perf/pmu-events/arch/x86/skylake/all.json", Path(SAMPLE).read_text())):
+    def source(self, table: str, registers: str = REGISTER_TABLE) -> str:
+        for name, text in (("arch/x86/events/intel/core.c", table + registers), ("tools/perf/pmu-events/arch/x86/skylake/all.json", Path(SAMPLE).read_text())):
             path = self.folder / "linux" / name
             path.parent.mkdir(parents=True, exist_ok=True)
             path.write_text(text)
         return str(self.folder / "linux")
 
+
+class KernelTables(KernelSource):
     def test_places(self) -> None:
         table = find_sources(self.source(TABLE), "skl").constraints
         assert table is not None
@@ -304,7 +309,21 @@ class KernelTables(InFolder):
             find_sources(str(self.folder / "absent"), "skl")
 
 
-class SharedRegisters(unittest.TestCase):
+class SharedRegisters(KernelSource):
+    def test_values_that_linux_takes(self) -> None:
+        """Those within the bits of the register's row."""
+        offcore, loads, frontend = find_sources(self.source(TABLE), "skl").registers
+        for group, code, value, is_taken in ((offcore, 0x1B7, 0x3FFFFF8FFF, True), (offcore, 0x1BB, 0x4000000000, False), (frontend, 0x1C6, 0x8, False), (offcore, 0x1C6, 0x8, True),
+                                             (loads, 0x1CD, 0x8, True)):
+            self.assertEqual(group.takes(code, value), is_taken, (code, value))
+
+    def test_a_name_whose_value_linux_refuses(self) -> None:
+        """OFFCORE_RESPONSE_0:L3_MISS of a Skylake has bits from 26 on."""
+        few = TABLE, REGISTER_TABLE.replace("0x3fffff8fffull, RSP_0", "0x0000008fffull, RSP_0")
+        for table, registers, is_refused in ((*few, True), (TABLE, REGISTER_TABLE, False)):
+            done = run_tool("make_unit", "skl", "--linux", self.source(table, registers), "--left-out")
+            self.assertEqual("OFFCORE_RESPONSE_0:L3_MISS: Linux refuses the value of its register\n" in done.stdout, is_refused, done.stderr)
+
     def test_as_many_counters_as_registers_where_others_need_them_least(self) -> None:
         group = Registers(frozenset({0x1B7, 0x1BB}), 2)
         everywhere = places({0, 1, 2, 3}, set())
