@@ -8,9 +8,10 @@ from typing import Callable, Iterable, List, Optional
 from formats.files import Unread, read_lines
 from formats.presets import SYMBOLS, Presets, cpu_fault, instead_of, name_fault, read_presets, why_unavailable
 from formats.scripts import Call, calls_of
-from formats.texts import counted, near, shown
+from formats.texts import counted, cut, near, shown
 from formats.units import Unit, fault_of, read_unit
 from formats.words import Words
+from holding import Tables, threshold_fault
 
 MOST_NAMES = 3  # of a script that are told
 
@@ -89,10 +90,10 @@ def _of_script(read: Words, unit: Unit, presets: Presets | None) -> list[str]:
 
 
 def _of_profil(read: Words, unit: Unit, presets: Presets | None) -> list[str]:
-    return [why_no_total(read), *_of_script(read, unit, presets)]
+    return [why_no_total(read, Tables(unit, presets)), *_of_script(read, unit, presets)]
 
 
-def why_no_total(read: Words) -> str:
+def why_no_total(read: Words, tables: Tables) -> str:
     """Why the total of a profile is 0, if that can be told without a run."""
     thread, number, index = (int(read.options.get(option, "0")) for option in ("--thread", "--set", "--index"))
     streams = len(read.others) - 1
@@ -100,8 +101,13 @@ def why_no_total(read: Words) -> str:
     sets = [call for call in calls if call.arguments[:1] == (str(number),)]
     if streams <= thread:
         return f"thread {thread} has no stream: the first stream belongs to thread 0, the next to thread 1, and the words name {counted(streams, 'stream')}"
-    if not any(call.name == "overflow" and call.arguments[2] != "0" for call in sets):
+    overflows = [call for call in sets if call.name == "overflow" and call.arguments[2] != "0"]
+    if not overflows:
         return f"the script has no overflow call for set {number} of thread {thread}{_overflows(calls)}"
+    faults = [(call, threshold_fault(call, tables)) for call in overflows]
+    if all(fault for _, fault in faults):
+        call, fault = faults[0]
+        return f"line {call.line}: {cut(' '.join((call.name, *call.arguments)))} is refused: {fault}"
     most = sum(call.name == "add" for call in sets)
     if index >= most:
         return f"set {number} of thread {thread} has at most {counted(most, 'event')}, numbered from 0, and --index is {index}"

@@ -9,8 +9,8 @@ from typing import Callable
 from formats.causes import NOT_ENDED, WRONG_REGION, one_of
 from formats.files import Unread, line_of, read_lines, read_table
 from formats.rows import map_fault, preset_fault, unit_fault
-from formats.scripts import CALLS, REGION_CALLS, line_fault, region_fault
-from formats.streams import stream_fault
+from formats.scripts import CALLS, REGION_CALLS, is_of_script, line_fault, region_fault
+from formats.streams import is_of_stream, stream_fault
 from formats.texts import cut, near, shown
 from formats.words import Words
 
@@ -20,6 +20,8 @@ LINE = re.compile(r"papi: (.*): line ([0-9]+): (.*)")
 # A script may have the name `stream 0`. The causes tell a line of a stream from one of a script.
 STREAM = re.compile(rf"papi: stream ([0-9]+): line ([0-9]+): ({one_of('stream')})")
 ROW_FAULTS = {"-U": unit_fault, "-P": preset_fault, "-M": map_fault}
+MARK = "\ufeff"
+OF_MARK = "{} begins with a byte order mark (the bytes EF BB BF), which this file may not have: save it as UTF-8 without one"
 MOST_STREAMS = 3  # of which faults are shown
 
 
@@ -63,6 +65,11 @@ def _row_hints(read: Words, name: str, number: int, cause: str) -> list[str]:
 
 def _line_hints(read: Words, name: str, number: int, cause: str) -> list[str]:
     lines = read_lines(name)
+    text = lines[number - 1] if number <= len(lines) else ""
+    if text.startswith(MARK):
+        return [OF_MARK.format(cut(name))]
+    if is_of_stream(text):
+        return [_shown_line(name, number, text), "this is a line of a stream: the script stands before the streams"]
     if cause in (WRONG_REGION, NOT_ENDED):
         fault = region_fault(lines, number)
     else:
@@ -74,6 +81,10 @@ def _line_hints(read: Words, name: str, number: int, cause: str) -> list[str]:
 def _stream_hints(read: Words, thread: int, number: int, cause: str) -> list[str]:
     name = read.others[1 + thread]
     text, has_stamps = line_of(name, number)
+    if text.startswith(MARK):
+        return [OF_MARK.format(cut(name))]
+    if is_of_script(text):
+        return [_shown_line(name, number, text), "this is a call of a script, which stands before the streams"]
     fault = stream_fault(text, has_stamps, cause)
     return [_shown_line(name, number, text)] + [fault] * bool(fault)
 

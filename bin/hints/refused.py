@@ -4,15 +4,16 @@ from __future__ import annotations
 
 import re
 from dataclasses import dataclass
-from typing import Optional, Sequence
+from typing import Sequence
 
 from formats.files import Unread, read_lines
-from formats.presets import Presets, cpu_fault, name_fault, read_presets
+from formats.presets import cpu_fault, name_fault, read_presets
 from formats.refusals import NAME_FAULTS, SENTENCES, causes_of, why_not
 from formats.scripts import CALLS, Call, calls_of
 from formats.texts import cut
-from formats.units import Unit, read_unit
+from formats.units import read_unit
 from formats.words import Words
+from holding import Sets, Tables, after, cause_that_holds
 
 MOST_REFUSALS = 10  # that are told
 REPLY = re.compile(r"([0-9]+) ([0-9]+) ([a-z]+) (PAPI_E[A-Z0-9]+)((?: \S+)*)")
@@ -28,28 +29,21 @@ class Refusal:
     results: tuple[str, ...]
 
 
-@dataclass(frozen=True)
-class Tables:
-    """The files of a call, as far as they can be read again."""
-
-    unit: Optional[Unit]
-    presets: Optional[Presets]
-
-    @classmethod
-    def of(cls, read: Words) -> Tables:
-        try:
-            unit = read_unit(read.options["-U"])
-            return cls(unit, read_presets(read.options["-P"], read.options["-C"]) if "-P" in read.options else None)
-        except (Unread, OSError, KeyError):
-            return cls(None, None)
+def tables_of(read: Words) -> Tables:
+    """The tables of a call, none where they can't be read again."""
+    try:
+        unit = read_unit(read.options["-U"])
+        return Tables(unit, read_presets(read.options["-P"], read.options["-C"]) if "-P" in read.options else None)
+    except (Unread, OSError, KeyError):
+        return Tables(None, None)
 
 
 def refusal_hints(read: Words, lines: Sequence[str]) -> list[str]:
     refusals = _refusals(read, lines)
     if not refusals:
         return []
-    tables = Tables.of(read)
-    told = [_told(refusal, tables) for refusal in refusals[:MOST_REFUSALS]]
+    tables, taken = tables_of(read), _taken(read, {refusal.call.line for refusal in refusals})
+    told = [_told(refusal, after(call for call in taken if call.line < refusal.call.line), tables) for refusal in refusals[:MOST_REFUSALS]]
     left = len(refusals) - MOST_REFUSALS
     more = [f"{left:,} more {'call is' if left == 1 else 'calls are'} refused"] if left > 0 else []
     fault = cpu_fault(tables.presets) if tables.presets is not None else ""
@@ -69,13 +63,21 @@ def _refusals(read: Words, lines: Sequence[str]) -> list[Refusal]:
     ]
 
 
-def _told(refusal: Refusal, tables: Tables) -> str:
+def _taken(read: Words, refused: set[int]) -> list[Call]:
+    """The calls that were not refused."""
+    try:
+        return [call for call in calls_of(read_lines(read.others[0])) if call.line not in refused]
+    except (Unread, OSError, IndexError):
+        return []
+
+
+def _told(refusal: Refusal, sets: Sets, tables: Tables) -> str:
     call = refusal.call
-    parts = [f"line {call.line}", cut(" ".join((call.name, *call.arguments))), SENTENCES.get(refusal.code, refusal.code), _why(refusal, tables)]
+    parts = [f"line {call.line}", cut(" ".join((call.name, *call.arguments))), SENTENCES.get(refusal.code, refusal.code), _why(refusal, sets, tables)]
     return ": ".join(part for part in parts if part)
 
 
-def _why(refusal: Refusal, tables: Tables) -> str:
+def _why(refusal: Refusal, sets: Sets, tables: Tables) -> str:
     call, code, results = refusal.call, refusal.code, refusal.results
     if code == CONFLICT and "/" in results:
         place = results.index("/")
@@ -84,4 +86,4 @@ def _why(refusal: Refusal, tables: Tables) -> str:
         event = call.arguments[CALLS[call.name].index("EVENT")]
         if fault := name_fault(tables.presets, tables.unit, event):
             return fault
-    return ", or ".join(causes_of(call.name, code))
+    return cause_that_holds(call, code, sets, tables) or ", or ".join(causes_of(call.name, code))

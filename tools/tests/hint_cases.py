@@ -230,11 +230,16 @@ ANSWERS = (
            s=SCRIPT.replace("0 overflow 0 INSTRUCTIONS 256\n", "")),
     answer("a profile of another set", "papi_profil -U u -M m --set 1 s t", 0, "the script has no overflow call for set 1 of thread 0 (it has some for set 0: --set)"),
     answer("a profile of an index that is not there", "papi_profil -U u -M m --index 1 s t", 0, "set 0 of thread 0 has at most 1 event, numbered from 0, and --index is 1"),
+    answer("a profile after a threshold that is refused", "papi_profil -U u -M m s t", 0,
+           "line 3: overflow 0 INSTRUCTIONS 255 is refused: the threshold is neither 0 nor from 256 to 4,294,967,295, the last value of the component's narrowest register",
+           s=SCRIPT.replace("256", "255")),
+    answer("a profile after one that is refused and one that is not", "papi_profil -U u -M m s t", 0, s=SCRIPT.replace("0 overflow", "0 overflow 0 INSTRUCTIONS 5\n0 overflow")),
     answer("a profile with a total", "papi_profil -U u -M m s t", 0),
 )
 
 NO_SET = "No such EventSet available: the set is not there"
 INVALID = "Invalid argument"
+IS_CODE = "is a code, and a call takes the event's name: papi_encode prints the codes of names, and the call `name CODE` replies the name of one"
 REFUSALS = (
     refused("an unknown processor in a script", "papi_run -U u -P p -C Small s t", "0 create\n0 add 0 PAPI_TOT_INS\n", "2 0 add PAPI_ENOEVNT",
             'the preset file has no processor "Small" (near: small)',
@@ -251,8 +256,23 @@ REFUSALS = (
     refused("umasks that cannot be combined", "papi_run -U u s t", "0 create\n0 add 0 LOADS:ALL:MISSES\n", "2 0 add PAPI_ECOMBO",
             "line 2: add 0 LOADS:ALL:MISSES: Bad combination of features: the umasks ALL and MISSES of mine::LOADS cannot be combined"),
     refused("a threshold that is too small", "papi_run -U u s t", "0 create\n0 add 0 LOADS\n0 overflow 0 LOADS 200\n", "3 0 overflow PAPI_EINVAL",
-            f"line 3: overflow 0 LOADS 200: {INVALID}: not in the set, or derived, or the threshold neither 0 nor from 256 to the last value of the component's narrowest "
-            "register, or another event's threshold is on the same native event"),
+            f"line 3: overflow 0 LOADS 200: {INVALID}: the threshold is neither 0 nor from 256 to 4,294,967,295, the last value of the component's narrowest register"),
+    refused("a threshold that is too large", "papi_run -U u s t", "0 create\n0 add 0 LOADS\n0 overflow 0 LOADS 4294967296\n", "3 0 overflow PAPI_EINVAL",
+            f"line 3: overflow 0 LOADS 4294967296: {INVALID}: the threshold is neither 0 nor from 256 to 4,294,967,295, the last value of the component's narrowest register"),
+    refused("a threshold of an event that the set lacks", "papi_run -U u s t", "0 create\n0 add 0 LOADS\n0 overflow 0 INSTRUCTIONS 256\n", "3 0 overflow PAPI_EINVAL",
+            f"line 3: overflow 0 INSTRUCTIONS 256: {INVALID}: the event is not in the set"),
+    refused("a threshold of an event that was removed", "papi_run -U u s t", "0 create\n0 add 0 LOADS\n0 remove 0 LOADS\n0 overflow 0 LOADS 256\n", "4 0 overflow PAPI_EINVAL",
+            f"line 4: overflow 0 LOADS 256: {INVALID}: the event is not in the set"),
+    refused("a threshold of a derived event", "papi_run -U u -P p -C large s t", "0 create\n0 add 0 BOTH\n0 overflow 0 BOTH 256\n", "3 0 overflow PAPI_EINVAL",
+            f"line 3: overflow 0 BOTH 256: {INVALID}: the event is derived"),
+    refused("two thresholds on one native event", "papi_run -U u -P p -C large s t",
+            "0 create\n0 add 0 PAPI_TOT_INS\n0 add 0 INSTRUCTIONS\n0 overflow 0 PAPI_TOT_INS 256\n0 overflow 0 INSTRUCTIONS 300\n", "5 0 overflow PAPI_EINVAL",
+            f"line 5: overflow 0 INSTRUCTIONS 300: {INVALID}: another event's threshold is on the same native event"),
+    refused("an event that the set has", "papi_run -U u s t", "0 create\n0 add 0 LOADS\n0 add 0 loads\n", "3 0 add PAPI_EINVAL", f"line 3: add 0 loads: {INVALID}: the set has it"),
+    refused("an event of another component", "papi_run -U u s t", "0 create\n0 add 0 LOADS\n0 add 0 TICKS\n", "3 0 add PAPI_EINVAL",
+            f"line 3: add 0 TICKS: {INVALID}: the set has events of another component", u=UNIT + "COMPONENT,clock,mine2\nCOUNTER,T0,32,P\nEVENT,TICKS,c0,T0,Ticks\n"),
+    refused("a code in a name's place", "papi_run -U u s t", "0 create\n0 add 0 0x5302d0\n0 add 0 1610612736\n", "2 0 add PAPI_ENOEVNT\n3 0 add PAPI_ENOEVNT",
+            f'line 2: add 0 0x5302d0: Event does not exist: "0x5302d0" {IS_CODE}', f'line 3: add 0 1610612736: Event does not exist: "1610612736" {IS_CODE}'),
     refused("a conflict", "papi_run -U u s t", "0 create\n0 add 0 LOADS\n0 add 0 LOADS:MISSES\n", "3 0 add PAPI_ECNFLCT mine::LOADS:ALL mine::LOADS:MISSES / C1",
             "line 3: add 0 LOADS:MISSES: Event exists, but cannot be counted due to hardware resource limits: These 2 events are allowed 1 counter, C1, and no others. "
             "So one of them has no place."),
@@ -260,7 +280,9 @@ REFUSALS = (
             "2 0 stop PAPI_ENOTRUN\n3 0 start PAPI_EINVAL\n6 0 domain PAPI_EISRUN\n7 0 raw PAPI_EINVAL",
             "line 2: stop 0: EventSet is currently not running: the set does not run", f"line 3: start 0: {INVALID}: no events",
             "line 6: domain 0 3: EventSet is currently counting: the set runs",
-            f"line 7: raw 0 5: {INVALID}: the component lacks the counter, or no native event of the set is on the counter"),
+            f"line 7: raw 0 5: {INVALID}: the component has 2 counters, from 0 on"),
+    refused("a counter on which no event of the set is", "papi_run -U u s t", "0 create\n0 add 0 LOADS\n0 start 0\n0 raw 0 0\n", "4 0 raw PAPI_EINVAL",
+            f"line 4: raw 0 0: {INVALID}: no native event of the set is on the counter"),
     refused("a set too many", "papi_run -U u s t", "0 create\n" * 65, "65 0 create PAPI_ECOUNT", "line 65: create: Too many events or attributes: 64 sets"),
     refused("an event too many", "papi_run -U u s t", "0 create\n0 multiplex 0 100\n" + "".join(f"0 add 0 INSTRUCTIONS:c={least}\n" for least in range(1, 34)),
             "35 0 add PAPI_ECOUNT", "line 35: add 0 INSTRUCTIONS:c=33: Too many events or attributes: more than 32 events or native events"),
@@ -339,7 +361,7 @@ SILENT = (
     refused("no stream", "papi_run -U u s", COUNTING, "6 0 stop PAPI_OK 0 0"),
     refused("a stream of another thread", "papi_run -U u s t x", COUNTING, "6 0 stop PAPI_OK 400 0", x="0 d0 03 k 1 1\n"),
     refused("a refused event beside it", "papi_run -U u s t", COUNTING.replace("0 start", "0 add 0 LOADS\n0 start"), "4 0 add PAPI_EINVAL\n7 0 stop PAPI_OK 400 0",
-            f"line 4: add 0 LOADS: {INVALID}: another component's, or in the set", f"mine::LOADS:ALL {NO_LINE}, d0 with a bit of 03"),
+            f"line 4: add 0 LOADS: {INVALID}: the set has it", f"mine::LOADS:ALL {NO_LINE}, d0 with a bit of 03"),
     refused("a unit to count over, over another recording", "papi_run -U u s t", COUNTING, "6 0 stop PAPI_OK 400 0", f"skl::LOADS {NO_LINE}, d0",
             "tools/record --unit UNIT writes lines for the events of UNIT, if tools/make_unit PMU --counted made it", u=COUNTED, t=RECORDED),
     refused("the same over another stream", "papi_run -U u s t", COUNTING, "6 0 stop PAPI_OK 400 0", f"skl::LOADS {NO_LINE}, d0", u=COUNTED),

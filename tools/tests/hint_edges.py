@@ -8,6 +8,7 @@ NET = "COMPONENT,net,wire\nCOUNTER,N0,32,P\nCOUNTER,N1,32,F\nEVENT,PACKETS,01,N0
 CYCLES = PRESETS + "PRESET,PAPI_TOT_CYC,"
 AVAIL = "papi_avail -U u -P p -C small"
 LONG = "x" * 101
+OF_MARK = "{} begins with a byte order mark (the bytes EF BB BF), which this file may not have: save it as UTF-8 without one"
 
 WORDS = (
     bad_words("a word too many after --", "papi_soak -- 1 2", '"2" is one word too many'),
@@ -83,6 +84,10 @@ FIELDS = (
 
 LINES = (
     bad_line("thread 64", "64 create\n", 1, "bad thread", "s:1: 64 create", '"64" stands where the thread is wanted, 0 to 63: 0 register'),
+    bad_line("a stream in the script's place", STREAM, 1, "unknown call", f"s:1: {STREAM.splitlines()[0]}", "this is a line of a stream: the script stands before the streams"),
+    bad_line("a byte order mark", "\ufeff0 create\n", 1, "bad thread", OF_MARK.format("s")),
+    bad_stream("a script in a stream's place", SCRIPT, 1, "wrong number of fields", "t:1: 0 create", "this is a call of a script, which stands before the streams"),
+    bad_stream("a byte order mark in a stream", "\ufeff" + STREAM, 1, "bad field", OF_MARK.format("t")),
     bad_line("a thread alone", "0\n", 1, "unknown call", "s:1: 0", f"no call stands after the thread ({NO_CALL_NEAR})"),
     bad_line("an argument too many", "0 create 1\n", 1, "wrong arguments", "s:1: 0 create 1", "create takes nothing after it: T create"),
     bad_line("an event's name with a control character", "0 create\n0 add 0 A\x01\n", 2, "wrong arguments", r"s:2: 0 add 0 A\x01", r'"A\x01": the name of an event has characters from ! to ~'),

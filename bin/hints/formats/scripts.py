@@ -57,6 +57,12 @@ def calls_of(lines: list[str]) -> list[Call]:
     return calls
 
 
+def is_of_script(text: str) -> bool:
+    """Whether a line begins as a call of a script or of a region script."""
+    words = words_of(text)
+    return len(words) > 1 and bool(THREAD.fullmatch(words[0])) and (words[1] in CALLS or words[1] in REGION_CALLS)
+
+
 def line_fault(text: str, cause: str, calls: Mapping[str, tuple[str, ...]]) -> str:
     """What is wrong with a line whose cause the program says, or nothing if the cause says it all."""
     words = words_of(text)

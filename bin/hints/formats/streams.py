@@ -21,6 +21,13 @@ STAMP = ("the stamp", r"0|[1-9][0-9]{0,9}", f"a number from 0 to {LAST_STAMP}")
 MOST_BYTES = 128
 
 
+def is_of_stream(text: str) -> bool:
+    """Whether a line has the form of a stream's, with a stamp or without one."""
+    fields = text.split(" ")
+    form = (*FIELDS, STAMP)
+    return len(fields) in (len(FIELDS), len(form)) and all(re.fullmatch(wanted, field) for field, (_, wanted, _) in zip(fields, form))
+
+
 def stream_fault(text: str, has_stamps: bool, cause: str) -> str:
     """What is wrong with a line whose cause the program says, or nothing if the cause says it all."""
     form = (*FIELDS, STAMP) if has_stamps else FIELDS

@@ -11,6 +11,7 @@ from .texts import near, shown
 MODIFIERS = ("u", "k", "e", "i", "c")
 SWITCH = re.compile(r"[01nyft]", re.IGNORECASE)
 NUMBER = re.compile(r"0|[1-9][0-9]{0,2}|0x[0-9A-Fa-f]{1,2}")
+CODE = re.compile(r"0[xX][0-9A-Fa-f]+|[0-9]+")  # where a name stands
 
 
 @dataclass(frozen=True)
@@ -38,8 +39,9 @@ class Event:
 class Unit:
     """The events of a unit in their order, found by their names without regard to case."""
 
-    def __init__(self, events: list[Event]):
+    def __init__(self, events: list[Event], widths: dict[int, list[int]] | None = None):
         self.events = events
+        self.widths = widths or {}  # of the counters of each component, in bits
         self._by_name: dict[str, list[Event]] = {}
         for event in events:
             self._by_name.setdefault(event.name.upper(), []).append(event)
@@ -56,6 +58,7 @@ class Unit:
 def read_unit(name: str) -> Unit:
     """The unit of a file that the program took."""
     events: list[Event] = []
+    widths: dict[int, list[int]] = {}
     component = pmu = ""
     number = -1
     for row in read_table(name):
@@ -63,13 +66,15 @@ def read_unit(name: str) -> Unit:
         if kind == "COMPONENT":
             component, pmu = fields[:2]
             number += 1
+        elif kind == "COUNTER":
+            widths.setdefault(number, []).append(int(fields[1]))
         elif kind == "EVENT":
             events.append(Event(component, pmu, fields[0], [], number, int(fields[1], 16)))
         elif kind == "UMASK":
             events[-1].umasks.append(Umask(fields[0], "d" in fields[2], "n" in fields[2], int(fields[1], 16)))
         elif kind == "UMASK_MODIFIERS":
             events[-1].umasks[-1] = replace(events[-1].umasks[-1], amount=int(fields[1]))
-    return Unit(events)
+    return Unit(events, widths)
 
 
 def parts_of(text: str) -> tuple[str | None, str | None, str, list[str]]:
@@ -104,6 +109,8 @@ def _unknown(unit: Unit, text: str) -> str:
         return f"the unit has no component {shown(component)}{near(component, (event.component for event in unit.events))}"
     if pmu is not None and not any(_same(event.pmu, pmu) for event in unit.events):
         return f"the unit has no pmu {shown(pmu)}{near(pmu, (event.pmu for event in unit.events))}"
+    if CODE.fullmatch(text):
+        return f"{shown(text)} is a code, and a call takes the event's name: papi_encode prints the codes of names, and the call `name CODE` replies the name of one"
     names = (event.name for event in unit.events if pmu is None or _same(event.pmu, pmu))
     return f"the unit has no event {shown(text)}{near(name, names)}"
 
