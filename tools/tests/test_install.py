@@ -4,6 +4,7 @@ from __future__ import annotations
 
 import os
 import re
+import shlex
 import shutil
 import signal
 import subprocess
@@ -115,7 +116,16 @@ class Install(InFolder):
                 words = ["pkg-config", "--variable=libdir", "kistalub" if name == "kistalub" else "papi"]
                 told = subprocess.run(words, capture_output=True, text=True, env={**os.environ, "PKG_CONFIG_PATH": str(moved / place)}).stdout
                 self.assertEqual(os.path.realpath(told.strip().replace("\\", "")), str(moved / wanted), (name, place))
+                self.check_words([*words[:1], "--cflags", "--libs", words[2]], moved / place, "kistalub" if name == "kistalub" else "papi")
         self.assertEqual([name for path in moved.rglob("*") if path.is_file() and str(self.prefix).encode() in path.read_bytes() for name in [path.name]], [])
+
+    def check_words(self, command: list[str], place: Path, library: str) -> None:
+        """The words for a compiler stay whole, though the prefix has a blank."""
+        told = subprocess.run(command, capture_output=True, text=True, env={**os.environ, "PKG_CONFIG_PATH": str(place)}).stdout
+        include, folder, *more = shlex.split(told)
+        self.assertEqual((include[:2], folder[:2], more), ("-I", "-L", [f"-l{library}", "-lpthread"]), told)
+        header = "kistalub.h" if library == "kistalub" else "papi.h"
+        self.assertTrue((Path(include[2:]) / header).is_file() and (Path(folder[2:]) / f"lib{library}.a").exists(), told)
 
     def test_whoever_comes_can_read_it(self) -> None:
         subprocess.run(["sh", "-c", 'umask 077 && exec "$@"', "sh", str(self.tree / "bin/install"), str(self.prefix)], check=True)
