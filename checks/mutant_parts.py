@@ -37,7 +37,7 @@ PARTS = {
     "preset_lines": Part(("tools/preset_lines",), "test_preset_lines test_endings.Texts test_endings.Streams", is_pure=False),
     "preset_rows": Part(("tools/preset_rows",), "test_preset_rows test_endings.Texts", is_pure=False),
     "draw_crates": Part(("tools/draw_crates", *_parts("crate_graph", "crate_picture")), "test_draw_crates test_endings.Crates", ("tools/draw_crates", "--check", "docs/crates.svg")),
-    "make_map": Part(("tools/make_map", *_parts("map_file", "symbols", "stream_head")), "test_make_map test_endings.Texts"),
+    "make_map": Part(("tools/make_map", *_parts("map_file", "symbols", "stream_head")), "test_make_map test_looked_at test_endings.Texts"),
     "make_fortran": Part(("tools/make_fortran", *_parts("c_header", "c_probe", "compiler", "fortran_header")), "test_c_header test_made_files test_endings.Compilers test_endings.Signals"),
     "make_pages": Part(("tools/make_pages", *_parts("usage", "tools_page", "manual_page", "command_page", "counted_page")), "test_make_pages test_made_files test_processors", ("tools/make_pages", "--check")),
     "make_unit": Part(("tools/make_unit", *_parts("counted_unit", "event_counters", "left_out", "libpfm4", "linux_source", "perf_events", "preset_umasks", "processors",
@@ -69,7 +69,7 @@ PARTS = {
     "count_profile": Part(_parts("callgrind_file", "code_profile", "profile_counts"), "test_count_profile", is_pure=False),
     "profile_page": Part(_parts("profile_page/annotated", "profile_page/flame", "profile_page/making"), "test_profile_page", is_pure=False),
     "count_whole": Part(_parts("attended", "count_files", "count_table", "elf_file", "event_sums", "kinds", "papi_program", "processes", "whole", "whole_counts", "whole_words"),
-                        "test_count_whole test_count_functions test_elf_file test_count", is_pure=False),
+                        "test_count_whole test_count_functions test_elf_file test_looked_at test_count", is_pure=False),
     "compare": Part(("tools/compare", *_all("tools/parts/compare/*.py")), "test_compare test_compare_texts"),
     "c": Part(_all("c/*.c"), command=("examples/c/check",), is_pure=False),
 }

@@ -15,7 +15,7 @@ from tests.counted import Counted
 from tests.support import ROOT, TOOLS, InFolder, needs_command, needs_library
 from tests.test_tool import Recording, needs_tool
 
-LONGEST = 100  # seconds: a write that fails must not be tried again and again
+LONGEST = 30  # seconds: a write that fails must not be tried again and again
 HEADERS = next(
     (
         folder
@@ -64,7 +64,7 @@ class Streams(InFolder):
             check=True,
         )
 
-    def put(self, output: str, *sizes: int) -> tuple[int, str]:
+    def put(self, output: str, *sizes: int | str) -> tuple[int, str]:
         with open(output, "wb") as file:
             done = subprocess.run(
                 [self.program, *map(str, sizes)],
@@ -91,6 +91,9 @@ class Streams(InFolder):
         self.assertEqual(self.put("/dev/full", 10), (1, "failed the stream can't be written\n"))
         self.assertEqual(
             self.put("/dev/full", 1_000_000), (1, "failed the stream can't be written\n")
+        )
+        self.assertEqual(
+            self.put("/dev/null", "nothing", 10), (1, "failed the stream can't be written\n")
         )
 
 
