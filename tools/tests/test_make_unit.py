@@ -244,6 +244,17 @@ class KernelTables(KernelSource):
         ):
             self.assertEqual(table.places(code, modifiers, 8), wanted, code)
 
+    def test_a_bit_of_a_umask(self) -> None:
+        """The row holds where the umask has the bit, whatever its other bits are."""
+        row = "INTEL_UBIT_EVENT_CONSTRAINT(0x8a3, 0x4)"
+        text = TABLE.replace("INTEL_UEVENT_CONSTRAINT(0x1c0, 0x2)", row)
+        table = find_sources(self.source(text), "skl").constraints
+        assert table is not None
+        for umask, wanted in ((0x08, {2}), (0x0C, {2}), (0xFF, {2}), (0x00, None), (0x04, None), (0xF7, None)):
+            found = table.places((0xA3, umask), unit_file.NOTHING_FIXED, 8)
+            self.assertEqual(found, places(wanted, set()) if wanted else None, umask)
+        self.assertIsNone(table.places((0xA7, 0x08), unit_file.NOTHING_FIXED, 8))
+
     def test_files_that_name_no_counter_of_the_table(self) -> None:
         """The sample names the counters 0, 2 and 3 for a code that the table puts on counter 1: Linux goes by its table."""
         sources = find_sources(self.source(TABLE), "skl")
