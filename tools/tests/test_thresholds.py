@@ -6,8 +6,9 @@ import shutil
 import subprocess
 import unittest
 
+from kernel_events import make_unit
 from tests.counted import Counted
-from tests.support import ROOT, needs_command, needs_library
+from tests.support import ROOT, needs_command, needs_libpfm4, needs_library
 
 
 @needs_command("valgrind", "valgrind")
@@ -120,9 +121,9 @@ class Addresses(Counted):
     }
     """
 
-    def places(self, code: str, *words: str) -> tuple[list[tuple[int, int]], list[int]]:
+    def places(self, code: str, *words: str, count_words: tuple[str, ...] = ()) -> tuple[list[tuple[int, int]], list[int]]:
         """The vector and the place of each call of the handler, and the values."""
-        done = self.count(self.compile(self.PROGRAM % code), *words)
+        done = self.count(*count_words, self.compile(self.PROGRAM % code), *words)
         self.assertEqual((done.stderr, done.returncode), ("", 0))
         calls, values = done.stdout.splitlines()
         return [(int(vector), int(place)) for vector, place in (call.split(":") for call in calls.split())], [int(value) for value in values.split()]
@@ -152,6 +153,22 @@ class Addresses(Counted):
         calls, values = self.places(self.WALK, "10000", "PAPI_L1_LDM", "256")
         self.assertEqual(len(calls), values[0] // 256)
         self.assertEqual({place for _, place in calls[1:]}, {self.LOAD})
+
+    def test_of_two_kinds(self) -> None:
+        """A turn loads and stores, so of an odd number every other passing is a store's."""
+        code = "mov (%rsi), %al; mov %al, (%rsi); dec %rdi; jnz code; ret"
+        calls, values = self.places(code, "6000", "MEMORY:LOADS:STORES", "301")
+        self.assertEqual(len(calls), values[0] // 301)
+        self.assertEqual({(one, later) for (_, one), (_, later) in zip(calls, calls[1:])}, {(0, 2), (2, 0)})
+
+    @needs_libpfm4
+    def test_of_split_loads(self) -> None:
+        """Each load needs the next line too, which the machine says when it happens."""
+        unit = make_unit("skl", self.folder)
+        code = "mov 61(%rsi), %rax; nop; nop; dec %rdi; jnz code; ret"
+        calls, values = self.places(code, "3000", "MEM_INST_RETIRED:SPLIT_LOADS", "300", count_words=("--unit", unit))
+        self.assertEqual((len(calls), values[0]), (10, 3000))
+        self.assertEqual({place for _, place in calls}, {0})
 
     def test_within_an_instruction_that_repeats_itself(self) -> None:
         """It stands at the place 6, and stores a byte in each turn."""
