@@ -118,11 +118,20 @@ int kistalub_presets_fault(const unsigned char *presets, size_t presets_len, con
  * and after that the stream has ended. -2 if memory is refused, and nothing happened then: an array of at most 32 takes none. */
 int kistalub_run(kistalub *h, uint32_t n, uint32_t *consumed, kistalub_passing *passings, size_t room, uint64_t *told, kistalub_fault *fault);
 
-/* Adds lines to the stream while the program runs: what was left of it is followed by what the text says, as docs/FORMATS.md has it ("A stream
- * that grows"). -1 if a line of the text is bad: `fault` then has the line, from 1, and the cause. So too with line 0 if nothing can follow: a bad
- * line has ended the stream or is left of it, or a last line without newline is left. -2 if memory is refused. Nothing is changed unless the answer
- * is 0, and then nothing is kept of the lines that were consumed. */
-int kistalub_feed(kistalub *h, const unsigned char *text, size_t text_len, kistalub_fault *fault);
+/* Occurrences of a native event: its component, select code and umask as a line of a stream has them, whether they are in kernel mode, the
+ * program counter, and how many there are. */
+typedef struct {
+    uint64_t address;
+    uint32_t amount;
+    uint8_t component, select, umask, kernel;
+} kistalub_occurrences;
+
+/* These happen now, in a library whose stream has ended or is empty, and `went` says how many did. They count as the lines of a stream would, one
+ * after another, of 255 each and a last one of the rest (docs/FORMATS.md, "Occurrences as numbers"). Each threshold that is passed is written into
+ * the array, in order. If fewer than 32 have room, or 32 places were written, it stops before the next line with -20, PAPI_EBUF, and a further call
+ * goes on with what is left. -1 if the stream has not ended, and nothing happens then, or if the thread has had as many lines as a thread may. It
+ * takes no memory. */
+int kistalub_happen(kistalub *h, const kistalub_occurrences *what, uint32_t *went, kistalub_passing *passings, size_t room, uint64_t *told);
 
 /* What follows is C over the functions above (the sources in c/), and is not proved. */
 

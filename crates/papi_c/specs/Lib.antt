@@ -6,7 +6,7 @@ pub mod Placed
 pub mod Asked
 pub mod Numbers
 pub mod Faults
-pub mod Fed
+pub mod Happened
 pub mod Runs
 pub use Rattle.papi_calls.specs.Libraries
 pub use Rattle.papi_calls.specs.Calls

@@ -3,8 +3,8 @@
 
 mod codes;
 mod faults;
-mod feeding;
 mod handle;
+mod happening;
 mod named;
 mod numbers;
 mod opened;

@@ -14,7 +14,7 @@ use std::alloc::{AllocError, Global};
 use thread_session::MOST_PASSED;
 
 /// No room is left in an array: PAPI_EBUF.
-const EBUF: i32 = -20;
+pub(crate) const EBUF: i32 = -20;
 
 /// A passed threshold, as C sees it.
 #[repr(C)]
@@ -26,7 +26,7 @@ pub struct Passing {
 }
 
 // The first notes, one after another.
-fn tell(notes: &[Note], count: usize, out: &mut [Passing])
+pub(crate) fn tell(notes: &[Note], count: usize, out: &mut [Passing])
     requires notes { count ≤ length notes.now }
     requires room { count ≤ length out.old }
     ensures written { take count out.new ≡ map passing_of (take count notes.now) }
@@ -63,7 +63,7 @@ fn number_of(filled: Filled) -> i32
 }
 
 // A note of nothing.
-const BLANK: Note = Note {
+pub(crate) const BLANK: Note = Note {
     thread: 0,
     set: 0,
     index: 0,

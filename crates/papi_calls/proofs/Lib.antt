@@ -1,2 +1,3 @@
 mod Known
 mod Calling
+mod Opening

@@ -2,6 +2,7 @@
 use Rattle.std.specs.Prelude.{ℕ, ◌≡◌, List, [], All}
 use Rattle.papi_base.specs.declared.native.Native.{Native}
 use Rattle.papi_base.specs.declared.outside.Ending.TheVariants.{End}
+use Rattle.papi_base.specs.Numerals.{is_empty}
 use Rattle.stream_reader.specs.Occurs.{occurs_of}
 use Rattle.postfix_rules.specs.Fitting.{Fits}
 use Rattle.session_model.specs.Account.{opening}
@@ -21,8 +22,9 @@ pub record IsWhole (catalog : CatalogView) (mentioned : List Native) (session : 
   pub shape : session.core.shape ≡ shape_of catalog.tables
   pub fit : All (Fits (shape_of catalog.tables)) mentioned
 
--- A library before any call: nothing is mentioned, and the thread's whole stream is to come.
+-- A library before any call: nothing is mentioned, and the thread's whole stream is to come. An empty one has ended.
 pub record IsOpened (given : CatalogView) (thread : ℕ) (stream : List ℕ) (l : LibraryView) : Type 0 where
   pub catalog : l.catalog ≡ given
   pub mentioned : l.mentioned ≡ []
   pub stands : Stands l.catalog.book l.session (opening thread (occurs_of End stream).rest (occurs_of End stream).mark)
+  pub over : l.session.reader.over ≡ is_empty stream

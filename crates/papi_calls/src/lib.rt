@@ -13,4 +13,4 @@ mod running;
 pub use infos::InfoPart;
 pub use library::Library;
 pub use rows::{ComponentPart, NativePart};
-pub use thread_session::Filled;
+pub use thread_session::{Filled, Halt, Happened, Happening};

@@ -1,6 +1,7 @@
 //! A catalog, the native events that were mentioned, and a session over a stream in memory.
 ghost use Rattle.std.specs.Prelude.{◌≡◌, IfOk, Some};
 ghost use Rattle.papi_base.specs.declared.outside.Ending.TheVariants.{End};
+ghost use Rattle.papi_base.specs.Numerals.{is_empty};
 ghost use Rattle.papi_calls.specs.Libraries.{IsOpened};
 ghost use Rattle.postfix_rules.specs.Fitting.{BookFits};
 ghost use Rattle.event_tables.specs.Tables.{shape_of};
@@ -44,7 +45,11 @@ impl Model for Library {
 fn reader_of(stream: Vec<u8>) -> StreamReader<MemSource>
     ensures fresh { IsFresh result }
     ensures coming { coming result ≡ Some (occurs_of End stream.items) }
+    ensures over { result.over ≡ is_empty stream.items }
 {
+    if stream.is_empty() {
+        return StreamReader::ended();
+    }
     StreamReader::new(MemSource::new(stream, Ending::End, PIECE))
 }
 
@@ -59,6 +64,7 @@ fn session_of(
     ensures stands { IfOk result
         (λ s. Stands catalog.now.book s
         (opening thread (occurs_of End stream.items).rest (occurs_of End stream.items).mark)) }
+    ensures over { IfOk result (λ s. s.reader.over ≡ is_empty stream.items) }
     ensures shape { IfOk result (λ s. s.core.shape ≡ shape_of catalog.now.tables) }
 {
     let _book = catalog.book();

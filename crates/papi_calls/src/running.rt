@@ -1,17 +1,18 @@
 //! Runs, and the stream that they consume.
-ghost use Rattle.std.specs.Prelude.{◌≡◌, ◌<◌, ◌≤◌, ◌+◌, [], IfOk, OnErr, drop, length, take, true};
+ghost use Rattle.std.specs.Prelude.{◌≡◌, ◌≢◌, ◌<◌, ◌≤◌, ◌+◌, [], IfOk, OnErr, drop, false, length, take, true};
 ghost use Rattle.call_type.specs.declared.call.Call.TheVariants as call;
 ghost use Rattle.thread_session.specs.Follows.{FollowsAs, IsCut, run_reply};
-ghost use Rattle.thread_session.specs.Feeding.{Feeds};
+ghost use Rattle.thread_session.specs.Happening.{Happens};
+ghost use Rattle.thread_session.specs.declared.happening.Halt.TheVariants as halt;
+ghost use Rattle.thread_core.specs.Stands.{has_stamp};
 ghost use Rattle.thread_session.specs.Room.{asked_for};
 ghost use Rattle.thread_session.specs.declared.filling.TheConstants.{MOST_PASSED};
 
 use crate::library::Library;
 use overflow_dispatch::{Handler, Note};
 use session_model::Ran;
-use std::alloc::{AllocError, Global};
-use stream_reader::Fed;
-use thread_session::Filled;
+use std::alloc::AllocError;
+use thread_session::{Filled, Happened, Happening};
 
 impl Library {
     /// Consumes up to `n` occurrences, and tells the handler each passing of a threshold as it comes. Memory is taken by the handler
@@ -46,14 +47,28 @@ impl Library {
         self.session.run_into(self.catalog.book(), n, out)
     }
 
-    /// Adds the lines of a text to the stream: what is left of it is followed by what the text says. If memory is refused, nothing is
-    /// changed.
-    pub fn feed(&mut self, alloc: Global, text: &[u8]) -> Result<Fed, AllocError>
-        ensures feeds { IfOk result (Feeds self.old.session self.new.session text.now) }
+    /// This happens as occurrences one after another, without a stream, and a note of each passing of a threshold is written into the
+    /// place. If fewer than 32 notes have room it stops before the next occurrence: no note is lost, and what is left of it can happen
+    /// then. Nothing happens before the stream has ended. It takes no memory.
+    pub fn happen_into(&mut self, what: &Happening, out: &mut [Note]) -> Happened
+        ensures happens { Happens self.old.catalog.book self.old.session self.new.session what.now
+            result.amount (take result.notes out.new) }
+        ensures within { result.amount ≤ what.now.amount }
+        ensures done { result.halt ≡ halt.Done → result.amount ≡ what.now.amount }
+        ensures full { result.halt ≡ halt.Full → length out.new < result.notes + MOST_PASSED }
+        ensures spent { result.halt ≡ halt.Spent → has_stamp self.new.session.core ≡ false }
+        ensures early { result.halt ≢ halt.Done → result.halt ≢ halt.Streaming
+            → result.amount < what.now.amount }
+        ensures streaming { result.halt ≡ halt.Streaming
+            → self.old.session.reader.over ≡ false }
+        ensures ended { self.old.session.reader.over ≡ false → result.halt ≡ halt.Streaming }
+        ensures nothing { result.halt ≡ halt.Streaming → result.amount ≡ 0 }
+        ensures fits { result.notes ≤ length out.new }
+        ensures rest { drop result.notes out.new ≡ drop result.notes out.old }
+        ensures length { length out.new ≡ length out.old }
         ensures catalog { self.new.catalog ≡ self.old.catalog }
         ensures mentioned { self.new.mentioned ≡ self.old.mentioned }
-        ensures kept { OnErr result (self.new ≡ self.old) }
     {
-        self.session.feed(alloc, text)
+        self.session.happen_into(self.catalog.book(), what, out)
     }
 }

@@ -10,7 +10,6 @@ pub mod DigitRuns
 pub mod FieldSteps
 pub mod FirstItems
 pub mod Giving
-pub mod Growing
 pub mod Hexadecimals
 pub mod JoinedDigits
 pub mod Judging

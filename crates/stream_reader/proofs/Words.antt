@@ -43,9 +43,6 @@ pub use Rattle.stream_reader.specs.CommonLines.{BeginsSkipped, BeginsWith, Begin
 pub use Rattle.stream_reader.specs.CommonLines.{IsAmountOf, IsDigits, IsFront, IsHead, IsInner, IsStamp, is_inner, is_plain, occ_with}
 pub use Rattle.stream_reader.specs.Digits.{HasValue, IsHexadecimal, is_value, piece}
 unfoldable pub use Rattle.stream_reader.specs.Digits.{HaveValues, number_after}
-pub use Rattle.stream_reader.specs.Feeding.{Grows, IsFirstLine, are_ended, are_whole, ends_well, followed, is_dry, is_end, is_open, left_start}
-pub use Rattle.stream_reader.specs.Feeding.{text_says, unread}
-unfoldable pub use Rattle.stream_reader.specs.Feeding.{place_after}
 pub use Rattle.stream_reader.specs.Fields.{digits_on, ends_with, has_form, hex_on, is_one_byte, stamp_after}
 unfoldable pub use Rattle.stream_reader.specs.Fields.{after_field, event_occurrence_on, first_field, number_on, occurrence_on, tail_on}
 pub use Rattle.stream_reader.specs.Inside.{FindsNewline, HasEnded, IsKept, IsReader, Passes, Refills, TakesLine, Turns, answer_of, left_of, line_at}
@@ -64,7 +61,6 @@ pub use Rattle.stream_reader.specs.declared.byte_tables.TheConstants.{DECIMALS, 
 pub use Rattle.stream_reader.specs.declared.common_line.CommonLine.{CommonLine}
 pub use Rattle.stream_reader.specs.declared.common_line.Front.{Front}
 pub use Rattle.stream_reader.specs.declared.common_line.Head.{Head}
-pub use Rattle.stream_reader.specs.declared.feeding.FirstLine.{FirstLine}
 pub use Rattle.stream_reader.specs.declared.field.Field.{Field}
 pub use Rattle.stream_reader.specs.declared.line.Judgement.{Judgement}
 pub use Rattle.stream_reader.specs.declared.line.Judgement.TheVariants.{Bad, Occurs, Skipped, Version}

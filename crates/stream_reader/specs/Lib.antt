@@ -1,7 +1,6 @@
 pub mod ByteTables
 pub mod CommonLines
 pub mod Digits
-pub mod Feeding
 pub mod Fields
 pub mod Inside
 pub mod Judged

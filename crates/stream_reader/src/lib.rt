@@ -4,7 +4,6 @@
 mod byte_tables;
 mod common_line;
 mod digit_vector;
-mod feeding;
 mod field;
 mod limits;
 mod line;
@@ -14,7 +13,6 @@ mod occurrence;
 mod piece;
 mod reader;
 
-pub use feeding::Fed;
 pub use limits::{LARGEST_STREAM, LONGEST_LINE, READER_BYTES};
 pub use line::{Judgement, LineStart};
 pub use next::Next;

@@ -117,6 +117,14 @@ impl<S: Source> StreamReader<S> {
         self.source
     }
 
+    /// Whether it answers `End` from now on.
+    #[inline(always)]
+    pub fn is_over(&self) -> bool
+        ensures { result ≡ self.now.over }
+    {
+        self.over
+    }
+
     // What the front of the bytes held is as a line.
     #[inline(always)]
     fn judge_front(&self, size: usize, ended: bool) -> Judgement

@@ -1,5 +1,5 @@
 -- When a core stands for an account.
-use Rattle.std.specs.Prelude.{◌+◌, ◌≤◌, ◌≡◌, [], ◌∷◌, ◌++◌, length, None}
+use Rattle.std.specs.Prelude.{◌+◌, ◌≤◌, ◌≡◌, ◌&&◌, ℕ, Bool, nat_lt, nat_le, [], ◌∷◌, ◌++◌, length, Option, Some, None, if◌then◌else◌}
 use Rattle.papi_base.specs.declared.occurrence.Occ.{Occ}
 use Rattle.papi_base.specs.declared.limits.TheConstants.{LAST_STAMP, MOST_OCCURRENCES, MOST_SETS}
 use Rattle.postfix_rules.specs.Presets.{Book}
@@ -39,6 +39,14 @@ pub record AgreesWith (book : Book) (core : CoreView) : Type 0 where
 pub record IsBacked (core : CoreView) : Type 0 where
   pub book : Book
   pub agrees : AgreesWith book core
+
+-- the core can take one occurrence more, and there is a stamp for it
+abbrev pub has_stamp : CoreView → Bool
+has_stamp core = nat_lt core.taken MOST_OCCURRENCES && nat_le (time_after core.last) LAST_STAMP
+
+-- the stamp of an occurrence that comes now, if it can be taken
+abbrev pub next_stamp : CoreView → Option ℕ
+next_stamp core = if has_stamp core then Some (time_after core.last) else None
 
 -- the account after one occurrence more
 abbrev pub consumed : Account → Occ → Account

@@ -12,7 +12,7 @@ ghost use Rattle.session_model.specs.Fitness.{IsShape};
 
 use crate::running_sets::RunningSets;
 use counter_unit::Unit;
-use papi_base::{MOST_COMPONENTS, Occ, Shape};
+use papi_base::{LAST_STAMP, MOST_COMPONENTS, MOST_OCCURRENCES, Occ, Shape};
 use std::alloc::{AllocError, Global};
 use std::marker::Model;
 use thread_slots::{Slot, Taken, count_all, empty_places};
@@ -58,7 +58,7 @@ fn empty_units(alloc: Global, shape: &Shape) -> Result<Vec<Unit>, AllocError>
 
 impl Core {
     ghost use Rattle.thread_core.specs.CoreView.{opening_core};
-    ghost use Rattle.thread_core.specs.Stands.{AgreesWith, CoreStands, consumed};
+    ghost use Rattle.thread_core.specs.Stands.{AgreesWith, CoreStands, consumed, next_stamp};
 
     /// A core without sets, for units of this shape. It takes the memory for all sets.
     pub fn new(alloc: Global, thread: u32, shape: Shape) -> Result<Core, AllocError>
@@ -97,6 +97,21 @@ impl Core {
             Some(o) => o.stamp + 1,
             None => 0,
         }
+    }
+
+    /// The stamp of an occurrence that comes now, if the thread can take one more.
+    #[inline(always)]
+    pub fn next_stamp(&self) -> Option<u64>
+        ensures { result ≡ next_stamp self.now }
+    {
+        if u64::from(self.taken) >= MOST_OCCURRENCES {
+            return None;
+        }
+        let now = self.time();
+        if now > u64::from(LAST_STAMP) {
+            return None;
+        }
+        Some(now)
     }
 
     /// Consumes one occurrence, and gives the events whose thresholds it passes.

@@ -9,12 +9,12 @@ module _ (book : Book) (core : CoreView) (reader : ReaderView) where
   may_call is ready = subst (λ (v : SessionView). AgreesWith book v.core) (sym is) ready.agrees
 
   module _ (made : Call) (reply : Reply) where
-    -- the core has still taken what the reader has given
+    -- the core is still in step with the reader
     pub still_in_step : (now : CoreView) → Follows book core now made reply → AreInStep core reader → AreInStep now reader
     still_in_step now f s = record {
-      taken = f.taken ∙ s.taken;
       few = subst (λ k. k ≤ MOST_OCCURRENCES) (sym f.taken) s.few;
-      last = ap (λ (last : Option Occ). option_map (λ (o : Occ). o.stamp) last) f.last ∙ s.last;
+      taken = λ gives. f.taken ∙ s.taken gives;
+      last = λ gives. ap (λ (last : Option Occ). option_map (λ (o : Occ). o.stamp) last) f.last ∙ s.last gives;
     }
 
     pub handed : (now : CoreView) → is_run made ≡ false → Follows book core now made reply → {was : SessionView} → record { core = core; reader = reader } ≡ was

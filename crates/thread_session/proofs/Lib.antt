@@ -4,7 +4,7 @@ pub mod Outcomes
 pub mod Endings
 pub mod Cuts
 pub mod Failing
-pub mod Fed
+pub mod HandedOver
 pub mod Results
 pub mod Delivering
 pub mod Rooms

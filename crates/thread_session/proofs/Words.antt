@@ -32,12 +32,9 @@ pub use Rattle.std.proofs.lemmas.Option.{unwrap_or-slice_get}
 pub use Rattle.std.specs.Option.{option_map, option_map_or}
 pub use Rattle.std.specs.Prelude.{Err, IfOk, Ok, OnErr, OnOk, Result, is_some, unwrap_or, ⊤}
 pub use Rattle.stream_reader.proofs.Giving.{Closed, GaveAll, gave_mark, gave_more, gave_none}
-pub use Rattle.stream_reader.specs.Feeding.{Grows, fed_with, text_says}
 pub use Rattle.stream_reader.specs.Reader.{Closes, GaveOne, GoesOn, NextGives, ReaderView, SourceView, Takes, at_mark, before_rest, coming, faults_of}
 pub use Rattle.stream_reader.specs.Reader.{follows, nothing, tape_of}
 unfoldable pub use Rattle.stream_reader.specs.Reader.{comes}
-pub use Rattle.stream_reader.specs.declared.feeding.Fed.{Fed}
-pub use Rattle.stream_reader.specs.declared.feeding.Fed.TheVariants.{Whole}
 pub use Rattle.stream_reader.specs.declared.next.Next.{Next}
 pub use Rattle.thread_core.proofs.Opening.{opening_agrees, opening_stands}
 pub use Rattle.thread_core.specs.CoreView.{CoreView, opening_core}
@@ -45,8 +42,15 @@ pub use Rattle.thread_core.specs.Following.{Follows, reply_of}
 pub use Rattle.thread_core.specs.Stands.{AgreesWith, CoreStands, consumed}
 pub use Rattle.thread_core.specs.Told.{AreGiven, values_in}
 pub use Rattle.thread_session.specs.Faults.{FaultsKept, IsFaultBody, IsFaultReply, fault_count}
-pub use Rattle.thread_session.specs.Feeding.{Feeds, growing}
 pub use Rattle.thread_session.specs.Follows.{Does, FollowsAs, FollowsTo, IsCut, IsCutTo, consuming, expecting, is_run, run_reply}
 pub use Rattle.thread_session.specs.Prospects.{CanCome}
 pub use Rattle.thread_session.specs.SessionView.{AreInStep, SessionView}
 pub use Rattle.thread_session.specs.Stands.{IsNew, IsReady, Stands, to_come}
+pub use Rattle.std.specs.Prelude.{leb, nat_le, ◌%◌, ◌/◌, ◌&&◌, if◌then◌else◌}
+pub use Rattle.std.proofs.lemmas.Bool.{ltb-true}
+pub use Rattle.papi_base.specs.declared.limits.TheConstants.{LAST_STAMP}
+pub use Rattle.thread_core.specs.Stands.{next_stamp}
+pub use Rattle.session_model.specs.Account.{time_after}
+pub use Rattle.thread_session.specs.Happening.{Happens, last_one, occurrence, occurrences, run_over}
+unfoldable pub use Rattle.thread_session.specs.Happening.{largest_ones}
+pub use Rattle.thread_session.specs.declared.happening.Happening.{Happening}

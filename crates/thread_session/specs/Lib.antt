@@ -3,7 +3,7 @@ pub mod Faults
 pub mod Prospects
 pub mod Stands
 pub mod Follows
-pub mod Feeding
+pub mod Happening
 pub mod Room
 pub use Rattle.event_sets.specs.Agreement
 pub use Rattle.overflow_dispatch.specs.Notes

@@ -17,8 +17,8 @@ pub record IsFresh (reader : ReaderView) : Type 0 where
   pub unasked : reader.asked ≡ false
   pub first : reader.start ≡ first_start
 
--- the core has taken what the reader has given
+-- as long as the reader gives occurrences the core has taken these and no others
 pub record AreInStep (core : CoreView) (reader : ReaderView) : Type 0 where
-  pub taken : core.taken ≡ reader.start.given
   pub few : core.taken ≤ MOST_OCCURRENCES
-  pub last : option_map (λ (o : Occ). o.stamp) core.last ≡ reader.start.last
+  pub taken : reader.over ≡ false → core.taken ≡ reader.start.given
+  pub last : reader.over ≡ false → option_map (λ (o : Occ). o.stamp) core.last ≡ reader.start.last

@@ -25,7 +25,7 @@ pub struct Filled {
 }
 
 // Writes a note for each threshold that the occurrence passed, in order, from this place on.
-fn place(out: &mut [Note], at: usize, thread: u32, taken: &Taken, o: &Occ)
+pub(crate) fn place(out: &mut [Note], at: usize, thread: u32, taken: &Taken, o: &Occ)
     requires room { at + length taken.now.passed ≤ length out.old }
     ensures length { length out.new ≡ length out.old }
     ensures written { take (at + length taken.now.passed) out.new

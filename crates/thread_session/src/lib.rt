@@ -4,12 +4,13 @@
 mod answers;
 mod calls;
 mod delivery;
-mod feeding;
 mod filling;
+mod happening;
 mod running;
 pub mod session;
 
 pub use filling::{Filled, MOST_PASSED};
+pub use happening::{Halt, Happened, Happening};
 pub use session::Session;
 pub use session_model::{Assigned, Body, Call, Ended, Named, Ran, Reply};
 pub use thread_core::{Core, Taken};

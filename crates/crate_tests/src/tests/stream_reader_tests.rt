@@ -205,38 +205,3 @@ fn no_stream(rt: HostRuntime) {
     assert_eq!(&rt; next, Next::End);
     assert!(&rt; reader.into_source().is_none());
 }
-
-// Streams, an `n` for each time that it was asked, the text that was added then, and what came of it, and then what was read of it before the end. The
-// same signs stand for bytes as above.
-const GROWN: &str = "\x20->  -> 0 c0 00 u 1 10/ -> Whole: 0 c0 00 u 1 10 0\n\
-0 c0 00 u 1 10/0 c0 00 u 2 20/ -> n -> 0 c0 00 u 3 30 -> Whole: 0 c0 00 u 2 20 1; 0 c0 00 u 3 30 2\n\
-version 2/0 c0 00 u 1 10 5/ -> nn -> 0 c0 00 u 2 20 9/ -> Whole: 0 c0 00 u 2 20 9\n\
-version 2/0 c0 00 u 1 10 5/ -> n -> 0 c0 00 u 2 20 5/ -> Bad { line: 1, cause: Stamp }: \n\
-version 2/0 c0 00 u 1 10 5/ ->  -> #/0 c0 00 u 2 20 6/0 c0 00 u 2 20 6/ -> Bad { line: 3, cause: Stamp }: 0 c0 00 u 1 10 5\n\
-0 c0 00 u 1 10 ->  -> 0 c0 00 u 2 20/ -> Closed: 0 c0 00 u 1 10 0\n\
-0 c0 00 u 1 10 -> nn -> 0 c0 00 u 2 20/ -> Whole: 0 c0 00 u 2 20 1\n\
-x/ ->  -> 0 c0 00 u 2 20/ -> Closed: bad line 1 Fields\n\
-x/ -> n -> 0 c0 00 u 2 20/ -> Closed: \n\
-\x20-> n -> version 2~/0 c0 00 u 1 10 3/ -> Whole: 0 c0 00 u 1 10 3\n\
-#/ -> n -> /version 2/ -> Bad { line: 2, cause: Fields }: \n\
-#/ ->  -> version 2/ -> Bad { line: 1, cause: Fields }: ";
-
-#[test]
-fn streams_that_grow(rt: HostRuntime) -> Result<(), Fail> {
-    let alloc = rt.alloc();
-    for line in GROWN.lines() {
-        let (stream, rest) = line.split_once(" -> ").expect(&rt, "a stream");
-        let (asked, rest) = rest.split_once(" -> ").expect(&rt, "how often");
-        let (text, expected) = rest.split_once(" -> ").expect(&rt, "a text");
-        let source = MemSource::new(bytes_of(alloc, stream)?, Ending::End, 4096);
-        let mut reader = StreamReader::new(source);
-        for _ in 0..asked.len() {
-            let _ = reader.next();
-        }
-        let fed = reader.feed(alloc, &bytes_of(alloc, text)?)?;
-        let said = said_by(alloc, &mut reader)?;
-        let told = format!(in alloc; "{fed:?}: {said}")?;
-        assert_eq!(&rt; told.as_str(), expected, "of {stream} and {text}");
-    }
-    Ok(())
-}

@@ -2,7 +2,7 @@ use Rattle.thread_session.proofs.Words.{arith, refl, ap, ◌∙◌, Bad, Dry, Fa
 use Rattle.thread_session.proofs.Cuts.{cut_at}
 use Rattle.thread_session.proofs.Endings.{run_short, run_whole, towards_short, towards_whole}
 use Rattle.thread_session.proofs.Results.{on_err}
-use Rattle.thread_session.proofs.Runs.{at_start, one_more}
+use Rattle.thread_session.proofs.Runs.{at_start, one_more, stays_in_step}
 use Rattle.thread_session.proofs.session.Session.consume.Goals as goal
 
 pub loop-consumed-init : goal.loop-consumed-init
@@ -24,7 +24,7 @@ loop-consumed-preserved g c =
       own = inv.own;
       running = one_more c.take-taken.result.set c.take-taken.result.passed inv.own (c.from-notes.ensures ∙ c.len.ensures.length) c.in_ok-deliver-in-Occ.ensures.whole
           c.take-taken.ensures.shape c.take-taken.ensures.agrees c.take-taken.ensures.taken c.take-taken.ensures.last c.take-taken.ensures.stands c.take-taken.ensures.notes
-          c.in-Occ.ensures.within.few c.in-Occ.ensures.counts c.in-Occ.ensures.kept c.in-Occ.ensures.faults c.in-Occ.ensures.told c.in-Occ.ensures.takes inv.running;
+          c.in-Occ.ensures.within.few c.in-Occ.ensures.counts c.in-Occ.ensures.kept c.in-Occ.ensures.faults c.in-Occ.ensures.told c.in-Occ.ensures.takes (λ over. (c.in-Occ.ensures.ended over).0) inv.running;
     }
 
 pub returns-in_err-deliver-in-Occ-clause-cut : goal.returns-in_err-deliver-in-Occ-clause-cut
@@ -58,3 +58,7 @@ returns-in-Bad-clause-towards g c left h =
 pub returns-in-ReadFault-clause-towards : goal.returns-in-ReadFault-clause-towards
 returns-in-ReadFault-clause-towards g c left h =
     towards_short _ _ _ _ _ _ _ _ _ _ Fault _ c.loop-consumed-test.true refl c.in-ReadFault.ensures.takes (c.in-ReadFault.ensures.over refl) c.loop-consumed.invariant.running left h
+
+pub invariant_of-self-in_err-deliver-in-Occ : goal.invariant_of-self-in_err-deliver-in-Occ
+invariant_of-self-in_err-deliver-in-Occ g c = stays_in_step _ _ _ _ _ c.take-taken.ensures.taken c.take-taken.ensures.last c.in-Occ.ensures.within.few c.in-Occ.ensures.counts
+    (λ over. (c.in-Occ.ensures.ended over).0) c.loop-consumed.invariant.running.in_step

@@ -35,7 +35,7 @@ loop-consumed-preserved g c =
       rest = subst (λ k. drop k c.place.new.out ≡ drop k c.args.out.now) (sym same) (c.place.ensures.rest ∙ later_rest c.loop-consumed.out c.args.out.now notes (length c.take-taken.result.passed) inv.rest);
       running = one_more c.take-taken.result.set c.take-taken.result.passed inv.own so_many (ap (λ k. take k c.place.new.out) same ∙ c.place.ensures.written)
           c.take-taken.ensures.shape c.take-taken.ensures.agrees c.take-taken.ensures.taken c.take-taken.ensures.last c.take-taken.ensures.stands c.take-taken.ensures.notes
-          c.in-Occ.ensures.within.few c.in-Occ.ensures.counts c.in-Occ.ensures.kept c.in-Occ.ensures.faults c.in-Occ.ensures.told c.in-Occ.ensures.takes inv.running;
+          c.in-Occ.ensures.within.few c.in-Occ.ensures.counts c.in-Occ.ensures.kept c.in-Occ.ensures.faults c.in-Occ.ensures.told c.in-Occ.ensures.takes (λ over. (c.in-Occ.ensures.ended over).0) inv.running;
     }
 
 pub returns-after-loop-consumed-clause-follows : goal.returns-after-loop-consumed-clause-follows
