@@ -14,6 +14,9 @@
 /* How many ticks a slice of a multiplexed set has at most: PAPI_set_multiplex(3). */
 #define LONGEST_SLICE 1000000
 
+/* The greatest amount of an occurrence. */
+#define LARGEST_AMOUNT 255
+
 /* How many bytes a unit file or a preset file has at most. */
 #define TABLE_BYTES 1048576
 

@@ -44,29 +44,33 @@ uint64_t kl_live_cycles(int of_all) {
     return cycles[of_all ? 0 : 1];
 }
 
-/* Takes what the thread did since its last call. In a handler of thresholds time stands. A handler of a signal, or the tool, may have interrupted this. */
-static void take_new(thread_state *t, int stands) {
+static void add_new(live_thread *live, const kl_amounts *now) {
+    for (uint64_t kinds = live->wanted; kinds; kinds &= kinds - 1) {
+        int kind = __builtin_ctzll(kinds);
+        for (unsigned i = 0; i < live->codes[kind].count; i++) live->left[kind][i] += now->of[kind] - live->seen.of[kind];
+    }
+}
+
+/* Takes what the thread did since its last call, and it happens. In a handler of thresholds time stands. A handler of a signal, or the tool, may have interrupted
+ * this. The thread's state may be gone then, if a handler ended the library. */
+static void take_new(thread_state *t, uint64_t address) {
     live_thread *live = t->live;
+    const int stands = kl_in_handler(t);
     kl_amounts now;
     if (!kl_core_begins(t)) return;
     take_counts(&now);
-    for (uint64_t left = stands ? 0 : live->wanted; left; left &= left - 1) {
-        int kind = __builtin_ctzll(left);
-        live->left.of[kind] += now.of[kind] - live->seen.of[kind];
-    }
+    if (!stands) add_new(live, &now);
     live->seen = now;
-    kl_keep_lines(t, !stands);
-    kl_core_ends(t);
+    if (stands || !live->wanted || live->has_ended) kl_core_ends(t);
+    else kl_happen(t, live->wanted, address);
 }
 
-/* It happens. The thread's state may be gone then, if a handler ended the library. Nothing happens to a thread that has ended. */
+/* Nothing happens to a thread that has ended. */
 static void catch_up(uint64_t address) {
     thread_state *t = kl_known();
     if (!t || !t->live) return;
-    const int stands = kl_in_handler(t);
     kl_change_enters();
-    take_new(t, stands);
-    if (!stands && t->live->wanted) kl_happen(t, &t->live->left, t->live->wanted, address);
+    take_new(t, address);
     kl_change_leaves();
 }
 
@@ -94,10 +98,11 @@ static void note_sets(thread_state *t) {
         live->wanted |= kinds_of_set(t, set);
         if (bits & PAPI_MULTIPLEXING) live->is_in_turns = 1;
     }
+    if (live->wanted && kl_keeps(t)) live->wanted = KL_ALL_KINDS;
     kl_ask(live->wanted ? KL_START : KL_STOP, 0, 0, 0);
     take_counts(&live->seen);
     for (int kind = 0; kind < LINE_KINDS; kind++)
-        if (!(live->wanted & KL_BIT(kind))) live->left.of[kind] = 0;
+        if (!(live->wanted & KL_BIT(kind))) memset(live->left[kind], 0, sizeof live->left[kind]);
 }
 
 static void shorten(uint64_t *period, uint64_t to) {

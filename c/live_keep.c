@@ -10,8 +10,10 @@
 #include <string.h>
 #include <unistd.h>
 
-/* A stream's limit (docs/FORMATS.md). */
-#define MOST_BYTES 67108864
+#define KEPT_ROOM 65536
+#define LONGEST_LINE 40
+
+struct kl_kept { int file; uint64_t bytes; size_t used; char lines[KEPT_ROOM]; };
 
 static const char *path;
 static pid_t process; /* a process that it has forked keeps nothing */
@@ -25,31 +27,49 @@ void kl_keep_begins(void) {
     process = getpid();
 }
 
+static struct kl_kept *open_kept(const char *name) {
+    struct kl_kept *kept = malloc(sizeof *kept);
+    int file = open(name, O_WRONLY | O_CREAT | O_TRUNC | O_CLOEXEC, 0666);
+    if (file < 0 || !kept) {
+        fprintf(stderr, "papi: %s: %s\n", name, strerror(file < 0 ? errno : ENOMEM));
+        if (file >= 0) close(file);
+        free(kept);
+        return NULL;
+    }
+    kept->file = file;
+    kept->bytes = kept->used = 0;
+    return kept;
+}
+
 void kl_keep_opens(thread_state *t) {
     int is_threads = 0;
-    t->live->kept = -1;
     if (!path || process != getpid()) return;
     char *name = kl_stream_path(path, t->number, &is_threads);
-    if (name && (is_threads || t->number == 0)) {
-        t->live->kept = open(name, O_WRONLY | O_CREAT | O_TRUNC | O_CLOEXEC, 0666);
-        if (t->live->kept < 0) fprintf(stderr, "papi: %s: %s\n", name, strerror(errno));
-    }
+    if (name && (is_threads || t->number == 0)) t->live->kept = open_kept(name);
     free(name);
 }
 
+int kl_keeps(const thread_state *t) { return t->live->kept && process == getpid(); }
+
+static void drop(live_thread *live) {
+    close(live->kept->file);
+    free(live->kept);
+    live->kept = NULL;
+}
+
 void kl_keep_closes(thread_state *t) {
-    if (t->live && t->live->kept >= 0) close(t->live->kept);
+    if (t->live && t->live->kept) drop(t->live);
 }
 
 static void end_with(live_thread *live, const char *why) {
     fprintf(stderr, "papi: KISTALUB_KEEP: %s\n", why);
-    close(live->kept);
-    live->kept = -1;
+    drop(live);
 }
 
-static void write_all(live_thread *live, size_t length) {
-    for (size_t done = 0; done < length;) {
-        ssize_t some = write(live->kept, live->lines + done, length - done);
+static void write_all(live_thread *live) {
+    struct kl_kept *kept = live->kept;
+    for (size_t done = 0; done < kept->used;) {
+        ssize_t some = write(kept->file, kept->lines + done, kept->used - done);
         if (some < 0 && errno == EINTR) continue;
         if (some <= 0) {
             end_with(live, strerror(errno));
@@ -57,16 +77,34 @@ static void write_all(live_thread *live, size_t length) {
         }
         done += (size_t)some;
     }
+    kept->used = 0;
 }
 
-void kl_keep_lines(thread_state *t, int counts) {
-    live_thread *live = t->live;
-    if (live->kept < 0 || process != getpid()) return;
-    size_t length;
-    while ((length = kl_ask(KL_FETCH, (uintptr_t)live->lines, sizeof live->lines, 0)) > 0) {
-        if (!counts || live->kept < 0) continue;
-        live->kept_bytes += length;
-        if (live->kept_bytes > MOST_BYTES) end_with(live, "the stream is full (67,108,864 bytes)");
-        else write_all(live, length);
+void kl_keep_writes(thread_state *t) {
+    if (kl_keeps(t)) write_all(t->live);
+}
+
+/* So many lines of the amount, as long as there is room in a stream. */
+static void add_lines(live_thread *live, const kistalub_occurrences *what, unsigned amount, uint32_t count) {
+    char line[LONGEST_LINE];
+    const size_t length = (size_t)snprintf(line, sizeof line, "%u %02x %02x %c %u %llx\n", what->component, what->select, what->umask, what->kernel ? 'k' : 'u', amount,
+                                           (unsigned long long)what->address);
+    for (; count && live->kept; count--) {
+        if (live->kept->used + length > KEPT_ROOM) write_all(live);
+        if (!live->kept) return;
+        if (live->kept->bytes + length > LARGEST_STREAM) {
+            write_all(live);
+            if (live->kept) end_with(live, "the stream is full (67,108,864 bytes)");
+            return;
+        }
+        memcpy(live->kept->lines + live->kept->used, line, length);
+        live->kept->used += length;
+        live->kept->bytes += length;
     }
+}
+
+void kl_keep_adds(thread_state *t, const kistalub_occurrences *what, uint32_t amount) {
+    if (!kl_keeps(t)) return;
+    add_lines(t->live, what, LARGEST_AMOUNT, amount / LARGEST_AMOUNT);
+    if (amount % LARGEST_AMOUNT) add_lines(t->live, what, amount % LARGEST_AMOUNT, 1);
 }

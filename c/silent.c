@@ -1,5 +1,5 @@
 /* Events that count nothing. A native event of a set that is started, for which no line of the thread's stream counts, is told once on standard error. The core is
- * asked: a library of its own counts the event over one line of each head that the stream has. With KISTALUB_HINTS=0 nothing is told. */
+ * asked: a library of its own counts the event over two lines of each head that the stream has. With KISTALUB_HINTS=0 nothing is told. */
 #include "internal.h"
 
 #include <stdio.h>
@@ -11,8 +11,7 @@
 #define MODES 2
 #define ALL_HEADS (COMPONENTS * PART_VALUES * PART_VALUES * MODES)
 #define MOST_HEADS_ASKED 4096 /* of a stream with more nothing is told */
-#define HEAD_ROOM 16
-#define LINE_ROOM (2 * (HEAD_ROOM + 8))
+#define AMOUNT (LARGEST_AMOUNT + 1) /* two lines: one of the most, and one of 1 */
 
 /* What was asked, by the number of the thread whose stream it is: 0 for one that all threads have. */
 struct kl_asked { struct kl_asked *next; uint32_t stream; char name[]; };
@@ -62,60 +61,76 @@ static unsigned find_heads(const text *stream, unsigned char *seen, int *heads) 
     return count;
 }
 
-static size_t put_head(char *to, int head) {
-    char name[HEAD_ROOM];
-    int mask = head / MODES % PART_VALUES, select = head / MODES / PART_VALUES % PART_VALUES, component = head / MODES / PART_VALUES / PART_VALUES;
-    snprintf(name, sizeof name, "%d %02x %02x %c", component % COMPONENTS, select, mask, head % MODES ? 'k' : 'u');
-    return (size_t)snprintf(to, LINE_ROOM, "%s 1 0\n%s 255 0\n", name, name);
+static kistalub_occurrences occurrences_of(int head) {
+    const int parts = head / MODES;
+    return (kistalub_occurrences){
+        .amount = AMOUNT,
+        .component = (uint8_t)(parts / PART_VALUES / PART_VALUES),
+        .select = (uint8_t)(parts / PART_VALUES % PART_VALUES),
+        .umask = (uint8_t)(parts % PART_VALUES),
+        .kernel = (uint8_t)(head % MODES),
+    };
 }
 
-static int put_heads(const int *heads, unsigned count, text *lines) {
-    lines->bytes = malloc((size_t)count * LINE_ROOM);
-    if (!lines->bytes) return PAPI_ENOMEM;
-    for (unsigned i = 0; i < count; i++) lines->length += put_head((char *)lines->bytes + lines->length, heads[i]);
+static int put_heads(const int *found, unsigned count, kl_heads *heads) {
+    heads->of = malloc(count * sizeof *heads->of);
+    if (!heads->of) return PAPI_ENOMEM;
+    for (unsigned i = 0; i < count; i++) heads->of[i] = occurrences_of(found[i]);
+    heads->count = count;
     return PAPI_OK;
 }
 
-int kl_take_heads(const text *stream, text *lines) {
+void kl_drop_heads(kl_heads *heads) {
+    free(heads->of);
+    *heads = (kl_heads){ NULL, 0 };
+}
+
+int kl_take_heads(const text *stream, kl_heads *heads) {
     struct { int heads[MOST_HEADS_ASKED + 1]; unsigned char seen[ALL_HEADS]; } *found; /* not on the stack: a thread may have a small one */
-    kl_drop_text(lines);
+    kl_drop_heads(heads);
     if (!stream->length) return PAPI_OK;
     found = calloc(1, sizeof *found);
     if (!found) return PAPI_ENOMEM;
     unsigned count = find_heads(stream, found->seen, found->heads);
-    int code = count == 0 || count > MOST_HEADS_ASKED ? PAPI_OK : put_heads(found->heads, count, lines);
+    int code = count == 0 || count > MOST_HEADS_ASKED ? PAPI_OK : put_heads(found->heads, count, heads);
     free(found);
     return code;
 }
 
 /* -- an event over them -- */
 
-/* Lets a set with the event alone count the lines, in user and kernel mode. */
-static int count_lines(kistalub *probe, uint32_t set, const char *name, const text *lines, int64_t *value) {
+/* These happen. No event has a threshold. */
+static int all_happen(kistalub *probe, const kl_heads *heads) {
     kistalub_passing passings[MOST_EVENTS];
-    kistalub_fault fault;
     uint64_t told = 0;
-    uint32_t went = 0, count = 0;
+    uint32_t went = 0;
+    int code = PAPI_OK;
+    for (size_t i = 0; code == PAPI_OK && i < heads->count; i++) code = kistalub_happen(probe, &heads->of[i], &went, passings, MOST_EVENTS, &told);
+    return code;
+}
+
+/* Lets a set with the event alone count them, in user and kernel mode. */
+static int count_heads(kistalub *probe, uint32_t set, const char *name, const kl_heads *heads, int64_t *value) {
+    uint32_t count = 0;
     int64_t values[MOST_EVENTS] = { 1 };
     int code = kistalub_set_domain(probe, set, PAPI_DOM_USER | PAPI_DOM_KERNEL);
     if (code == PAPI_OK) code = kistalub_add_named(probe, set, (const unsigned char *)name, strlen(name));
     if (code == PAPI_OK) code = kistalub_start(probe, set);
-    if (code == PAPI_OK) code = kistalub_feed(probe, lines->bytes, lines->length, &fault);
-    if (code == PAPI_OK) code = kistalub_run(probe, UINT32_MAX, &went, passings, MOST_EVENTS, &told, &fault);
+    if (code == PAPI_OK) code = all_happen(probe, heads);
     if (code == PAPI_OK) code = kistalub_stop(probe, set, values, MOST_EVENTS, &count);
     *value = values[0];
     return code;
 }
 
 /* Whether no line counts for the event. What can't be told does. */
-static int ask_core(const kl_files *files, const char *name, const text *lines, int *is_silent) {
+static int ask_core(const kl_files *files, const char *name, const kl_heads *heads, int *is_silent) {
     const text nothing = { NULL, 0 };
     kistalub probe = KISTALUB_SHUT;
     uint32_t set = 0;
     int64_t value = 1;
     int code = kl_open_over(&probe, files, 0, &nothing);
     if (code == PAPI_OK) code = kistalub_create(&probe, &set);
-    if (code == PAPI_OK) code = count_lines(&probe, set, name, lines, &value);
+    if (code == PAPI_OK) code = count_heads(&probe, set, name, heads, &value);
     kistalub_close(&probe);
     *is_silent = code == PAPI_OK && value == 0;
     return code == PAPI_ENOMEM ? code : PAPI_OK;
@@ -128,11 +143,11 @@ static int is_asked(const kl_files *files, uint32_t stream, const char *name) {
 }
 
 /* Under kl_asked_lock. What memory was refused to is asked once more. */
-static int judge_native(kl_files *files, uint32_t stream, const char *name, const text *lines) {
+static int judge_native(kl_files *files, uint32_t stream, const char *name, const kl_heads *heads) {
     int is_silent = 0;
     if (is_asked(files, stream, name)) return PAPI_OK;
     struct kl_asked *made = malloc(sizeof *made + strlen(name) + 1);
-    int code = made ? ask_core(files, name, lines, &is_silent) : PAPI_ENOMEM;
+    int code = made ? ask_core(files, name, heads, &is_silent) : PAPI_ENOMEM;
     if (code != PAPI_OK) {
         free(made);
         return code;
@@ -172,7 +187,7 @@ int kl_judge_events(thread_state *t, uint32_t set) {
     uint64_t count = 0;
     int answer = PAPI_OK;
     NO_CANCELLATION;
-    kl_files *files = t->heads.length ? kl_hold_files() : NULL;
+    kl_files *files = t->heads.count ? kl_hold_files() : NULL;
     if (!files) return PAPI_OK;
     if (kl_core_begins(t)) {
         kl_core_changes(t);

@@ -14,6 +14,9 @@
 
 typedef struct { unsigned char *bytes; size_t length; } text;
 
+/* The kinds of lines of a stream. */
+typedef struct { kistalub_occurrences *of; size_t count; } kl_heads;
+
 /* A file whose bytes lie in memory once for all threads that read it. */
 typedef struct kl_stream kl_stream;
 
@@ -85,13 +88,13 @@ typedef struct thread_state {
     int end_rounds; /* of the destructors at the thread's end */
     void *kept[PAPI_NUM_TLS];
     uint32_t step;     /* what happens before a call that reads */
-    uint64_t happened; /* how many occurrences have */
+    uint64_t happened; /* how many occurrences of its stream have */
     int is_watched;    /* an event has a watch */
     kl_hold holds[MOST_HOLDS]; /* calls of the thread that go on after a function of the user: the first ones of them */
     int hold_count;
     int has_left;      /* the thread has no more to do with it: the last of these calls closes it */
     uint32_t drawn;    /* the last number of the generator of profiles */
-    text heads;        /* the lines over which events are judged (silent.c) */
+    kl_heads heads;    /* what occurs in its stream, over which events are judged (silent.c) */
     struct live_thread *live; /* what the tool that counts a program knows of it (live.h), or NULL */
     kl_signals signals;
     kl_code_map codes;
@@ -138,10 +141,11 @@ void kl_forget_jumps(thread_state *t);
 /* Whether a handler of the thread runs: time stands. */
 int kl_in_handler(thread_state *t);
 
-/* silent.c: two lines for each kind of line that a stream has, if there are not too many; they are kept by the thread. The events of a set that is to be started
+/* silent.c: occurrences of each kind of line that a stream has, if there are not too many; they are kept by the thread. The events of a set that is to be started
  * are judged over them: those that no line counts for are told once. The name of a native event of an event, by its place from 0. */
 int kl_tells_silence(void);
-int kl_take_heads(const text *stream, text *lines);
+int kl_take_heads(const text *stream, kl_heads *heads);
+void kl_drop_heads(kl_heads *heads);
 int kl_judge_events(thread_state *t, uint32_t set);
 void kl_forget_asked(kl_files *files);
 int kl_native_name(thread_state *t, uint32_t code, uint32_t place, char name[NAME_ROOM]);

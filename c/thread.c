@@ -21,7 +21,7 @@ static uint32_t next_number; /* under kl_lock */
 /* What a thread without sets has no more use for. */
 void kl_close_library(thread_state *t) {
     kistalub_close(&t->library);
-    kl_drop_text(&t->heads);
+    kl_drop_heads(&t->heads);
     kl_drop_codes(t);
     kl_unnumber_sets(t);
     kl_live_closes(t);

@@ -17,22 +17,35 @@ from tests.support import ROOT, TOOLS, InFolder, installed, needs_command, needs
 
 
 @needs_command("cc", "a C compiler")
-class Lines(InFolder):
-    """What is said when a thread has had all lines that a stream may have, over a core that takes few."""
+class Hands(InFolder):
+    """What a thread did is handed over kind after kind or in turn, over a core of the test's own: lines as they happened, and a point behind each call."""
 
-    def said(self, room: int) -> tuple[str, str]:
-        program = str(self.folder / "lines")
+    CALL = "l255 l8 s3 t3 . "
+
+    def said(self, *words: str) -> tuple[str, str]:
+        program = str(self.folder / "hands")
         if not Path(program).exists():
-            sources = [str(TOOLS / "tests/live_end.c"), str(ROOT / "c/live_lines.c")]
+            sources = [str(TOOLS / "tests/live_hands.c"), str(ROOT / "c/live_counts.c")]
             subprocess.run(["cc", "-std=c11", "-Wall", "-Wextra", "-Werror", f"-I{ROOT / 'include'}", "-o", program, *sources], check=True)
-        done = subprocess.run([program, str(room)], capture_output=True, text=True, check=True)
+        done = subprocess.run([program, *words], capture_output=True, text=True, check=True)
         return done.stdout, done.stderr
 
     def test_the_end_is_said_once(self) -> None:
         line = "papi: thread 3: nothing more is counted: 4294967295 lines of occurrences have happened\n"
-        self.assertEqual(self.said(6), ("3 feeds, 6 lines\n", ""))
-        self.assertEqual(self.said(5), ("3 feeds, 4 lines\n", line))
-        self.assertEqual(self.said(2), ("2 feeds, 2 lines\n", line))
+        self.assertEqual(self.said("12"), (3 * self.CALL, ""))
+        self.assertEqual(self.said("11"), (2 * self.CALL + "l255 l8 s3 . ", line))
+        self.assertEqual(self.said("5"), (self.CALL + "l255 . . ", line))
+
+    def test_what_a_handler_jumps_over_happens_later(self) -> None:
+        """A handler that jumps out of each call leaves what comes after it to the next ones, and nothing happens twice."""
+        self.assertEqual(self.said("99", "jump"), ("l255 . l255 . l255 . l24 . s9 . t9 . ", ""))
+
+    def test_nothing_happens_after_a_handler_that_ends_the_library(self) -> None:
+        self.assertEqual(self.said("99", "leave"), ("l255 . . . ", ""))
+
+    def test_events_in_turn_end_together(self) -> None:
+        """Twice as many of one have twice as many lines in the same rounds."""
+        self.assertEqual(self.said("99", "turns"), (3 * "l255 l255 s255 t255 l255 l255 s255 t255 . ", ""))
 
 
 @needs_command("valgrind", "valgrind")
@@ -180,6 +193,46 @@ class Programs(Counted):
         self.assertEqual(one, two)
         taken = sum(int(line.split()[4]) for line in one.splitlines() if line.startswith("0 c4 a5 u "))
         self.assertEqual(taken, 999 + 2999)
+
+    TWO_THREADS = """
+    #include <pthread.h>
+    static __thread long number;
+    static void passed(int set, void *address, long long vector, void *context) {
+        (void)set, (void)context;
+        for (int i = 0; i < 2; i++) if (vector >> i & 1) printf("note %ld 0 %d %p\\n", number, i, address);
+    }
+    static void *work(void *given) {
+        int set = PAPI_NULL, branches, instructions; long long values[2];
+        number = (long)given;
+        if (PAPI_create_eventset(&set) || PAPI_event_name_to_code("PAPI_BR_TKN", &branches) || PAPI_event_name_to_code("PAPI_TOT_INS", &instructions)
+            || PAPI_add_event(set, branches) || PAPI_add_event(set, instructions)
+            || PAPI_overflow(set, branches, 1000, 0, passed) || PAPI_overflow(set, instructions, 1700, 0, passed)) exit(8);
+        PAPI_start(set); loop(4000 - 1000 * number); PAPI_read(set, values); loop(1500); PAPI_stop(set, values);
+        printf("stop %ld %lld %lld\\n", number, values[0], values[1]);
+        return NULL;
+    }
+    int main(void) {
+        pthread_t thread;
+        if (PAPI_library_init(PAPI_VER_CURRENT) != PAPI_VER_CURRENT || PAPI_thread_init(pthread_self)) return 9;
+        work((void *)0);
+        return pthread_create(&thread, NULL, work, (void *)1) || pthread_join(thread, NULL);
+    }
+    """
+
+    @needs_program
+    def test_the_kept_streams_are_those_that_were_counted(self) -> None:
+        """papi_run over them has the same values of both threads, and the same thresholds at the same places in the same order."""
+        kept = [str(self.folder / f"kept.{number}") for number in (0, 1)]
+        counted = self.count("--keep", str(self.folder / "kept.%t"), self.compile(self.TWO_THREADS))
+        self.assertEqual((counted.stderr, counted.returncode), ("", 0))
+        calls = ("create", "add 0 PAPI_BR_TKN", "add 0 PAPI_TOT_INS", "overflow 0 PAPI_BR_TKN 1000", "overflow 0 PAPI_TOT_INS 1700", "start 0", "run 4294967295", "stop 0")
+        script = self.write("script", "".join(f"{thread} {call}\n" for thread in (0, 1) for call in calls))
+        words = ["-U", str(ROOT / "examples/recorded.unit"), "-P", str(ROOT / "examples/recorded.presets"), "-C", "recorded", "--notes", script, *kept]
+        done = subprocess.run([str(ROOT / "bin/papi_run"), *words], capture_output=True, text=True, check=True)
+        replies = [line.split() for line in done.stdout.splitlines()]
+        wanted = [" ".join(line) for line in replies if line[0] == "note"] + [f"stop {line[1]} {line[4]} {line[5]}" for line in replies if line[2] == "stop"]
+        self.assertEqual(sorted(counted.stdout.splitlines(), key=lambda line: line[:4]), wanted)
+        self.assertEqual([sum(line.startswith(f"note {thread} 0 0 ") for line in wanted) for thread in (0, 1)], [5, 4])
 
     def test_operations(self) -> None:
         program = self.compile("""
@@ -455,7 +508,7 @@ class Programs(Counted):
 
     def test_refusals(self) -> None:
         self.assertEqual(self.count("nosuchprogram").stderr, "count: nosuchprogram: no such program\n")
-        for words in ((), ("--window", "0", "true"), ("--nothing", "true")):
+        for words in ((), ("--window", "3", "true"), ("--nothing", "true")):
             self.assertEqual(self.count(*words).returncode, 2, words)
 
     def test_a_signal_ends_as_it_does_without(self) -> None:

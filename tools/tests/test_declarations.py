@@ -14,6 +14,8 @@ CHANGES = (
     ("int kistalub_reset(kistalub *h, uint32_t set);\n", "", "function kistalub_reset: kistalub.h: none"),
     ("void kistalub_close(", "int kistalub_close(", "function kistalub_close: kistalub.h: int, kistalub *"),
     ("uint32_t set, index; uint64_t address", "uint32_t index, set; uint64_t address", "struct kistalub_passing: kistalub.h: uint32_t index, uint32_t set, uint64_t address"),
+    ("uint8_t component, select, umask, kernel;", "uint8_t component, select, kernel, umask;",
+     "struct kistalub_occurrences: kistalub.h: uint64_t address, uint32_t amount, uint8_t component, uint8_t select, uint8_t kernel, uint8_t umask"),
     ("#define KISTALUB_ROW_MASK 2", "#define KISTALUB_ROW_MASK 3",
      "parts NativePart: kistalub.h: KISTALUB_ROW_NAME 0, KISTALUB_ROW_DESCRIPTION 1, KISTALUB_ROW_MASK 3, KISTALUB_ROW_MASK_DESCRIPTION 3"),
 )

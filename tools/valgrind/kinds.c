@@ -1,20 +1,20 @@
 #include "kinds.h"
 
-#define ONE(head) {1, {head}}
+#define ONE(select, umask) {1, {{select, umask}}}
 
-const line_codes recorded_codes = {
-    [KL_INSTRUCTIONS] = ONE("0 c0 00 u"), [KL_CYCLES] = ONE("0 3c 00 u"), [KL_STALLS] = ONE("0 a2 01 u"), [KL_LOADS] = ONE("0 d0 01 u"), [KL_STORES] = ONE("0 d0 02 u"),
-    [KL_L1D_LOAD_MISSES] = ONE("0 51 03 u"), [KL_L1D_STORE_MISSES] = ONE("0 51 05 u"), [KL_L1I_MISSES] = ONE("0 83 02 u"),
-    [KL_L2_LOAD_HITS] = ONE("0 25 01 u"), [KL_L2_STORE_HITS] = ONE("0 25 02 u"), [KL_L2_FETCH_HITS] = ONE("0 25 04 u"),
-    [KL_L2_LOAD_MISSES] = ONE("0 25 09 u"), [KL_L2_STORE_MISSES] = ONE("0 25 12 u"), [KL_L2_FETCH_MISSES] = ONE("0 25 24 u"),
-    [KL_L3_LOAD_HITS] = ONE("0 2f 01 u"), [KL_L3_STORE_HITS] = ONE("0 2f 02 u"), [KL_L3_FETCH_HITS] = ONE("0 2f 04 u"),
-    [KL_L3_LOAD_MISSES] = ONE("0 2f 09 u"), [KL_L3_STORE_MISSES] = ONE("0 2f 12 u"), [KL_L3_FETCH_MISSES] = ONE("0 2f 24 u"),
-    [KL_DTLB_LOAD_MISSES] = ONE("0 08 01 u"), [KL_DTLB_STORE_MISSES] = ONE("0 49 01 u"), [KL_ITLB_MISSES] = ONE("0 85 01 u"),
-    [KL_TAKEN] = ONE("0 c4 a5 u"), [KL_NOT_TAKEN] = ONE("0 c4 15 u"), [KL_JUMPS] = ONE("0 c4 24 u"), [KL_CALLS] = ONE("0 c4 26 u"), [KL_RETURNS] = ONE("0 c4 2c u"),
-    [KL_ERRED_TAKEN] = ONE("0 c5 25 u"), [KL_ERRED_NOT_TAKEN] = ONE("0 c5 05 u"),
-    [KL_SCALAR_DOUBLES] = ONE("0 c7 01 u"), [KL_SCALAR_SINGLES] = ONE("0 c7 02 u"), [KL_DOUBLES_128] = ONE("0 c7 04 u"), [KL_SINGLES_128] = ONE("0 c7 08 u"),
-    [KL_DOUBLES_256] = ONE("0 c7 10 u"), [KL_SINGLES_256] = ONE("0 c7 20 u"), [KL_DOUBLES_512] = ONE("0 c7 40 u"), [KL_SINGLES_512] = ONE("0 c7 80 u"),
-    [KL_X87S] = ONE("0 10 01 u"),
+const all_codes recorded_codes = {
+    [KL_INSTRUCTIONS] = ONE(0xc0, 0x00), [KL_CYCLES] = ONE(0x3c, 0x00), [KL_STALLS] = ONE(0xa2, 0x01), [KL_LOADS] = ONE(0xd0, 0x01), [KL_STORES] = ONE(0xd0, 0x02),
+    [KL_L1D_LOAD_MISSES] = ONE(0x51, 0x03), [KL_L1D_STORE_MISSES] = ONE(0x51, 0x05), [KL_L1I_MISSES] = ONE(0x83, 0x02),
+    [KL_L2_LOAD_HITS] = ONE(0x25, 0x01), [KL_L2_STORE_HITS] = ONE(0x25, 0x02), [KL_L2_FETCH_HITS] = ONE(0x25, 0x04),
+    [KL_L2_LOAD_MISSES] = ONE(0x25, 0x09), [KL_L2_STORE_MISSES] = ONE(0x25, 0x12), [KL_L2_FETCH_MISSES] = ONE(0x25, 0x24),
+    [KL_L3_LOAD_HITS] = ONE(0x2f, 0x01), [KL_L3_STORE_HITS] = ONE(0x2f, 0x02), [KL_L3_FETCH_HITS] = ONE(0x2f, 0x04),
+    [KL_L3_LOAD_MISSES] = ONE(0x2f, 0x09), [KL_L3_STORE_MISSES] = ONE(0x2f, 0x12), [KL_L3_FETCH_MISSES] = ONE(0x2f, 0x24),
+    [KL_DTLB_LOAD_MISSES] = ONE(0x08, 0x01), [KL_DTLB_STORE_MISSES] = ONE(0x49, 0x01), [KL_ITLB_MISSES] = ONE(0x85, 0x01),
+    [KL_TAKEN] = ONE(0xc4, 0xa5), [KL_NOT_TAKEN] = ONE(0xc4, 0x15), [KL_JUMPS] = ONE(0xc4, 0x24), [KL_CALLS] = ONE(0xc4, 0x26), [KL_RETURNS] = ONE(0xc4, 0x2c),
+    [KL_ERRED_TAKEN] = ONE(0xc5, 0x25), [KL_ERRED_NOT_TAKEN] = ONE(0xc5, 0x05),
+    [KL_SCALAR_DOUBLES] = ONE(0xc7, 0x01), [KL_SCALAR_SINGLES] = ONE(0xc7, 0x02), [KL_DOUBLES_128] = ONE(0xc7, 0x04), [KL_SINGLES_128] = ONE(0xc7, 0x08),
+    [KL_DOUBLES_256] = ONE(0xc7, 0x10), [KL_SINGLES_256] = ONE(0xc7, 0x20), [KL_DOUBLES_512] = ONE(0xc7, 0x40), [KL_SINGLES_512] = ONE(0xc7, 0x80),
+    [KL_X87S] = ONE(0x10, 0x01),
 };
 
 const char *const kind_names[ALL_KINDS] = {
@@ -39,9 +39,21 @@ const char *const kind_names[ALL_KINDS] = {
 
 #define CODE_LENGTH 4
 
-static int is_code(const char *text) {
-    for (int i = 0; i < CODE_LENGTH; i++)
-        if (!((text[i] >= '0' && text[i] <= '9') || (text[i] >= 'a' && text[i] <= 'f'))) return 0;
+static int digit_of(char letter) {
+    if (letter >= '0' && letter <= '9') return letter - '0';
+    return letter >= 'a' && letter <= 'f' ? letter - 'a' + 10 : -1;
+}
+
+/* The code whose digits the text begins with. Gives whether there are so many. */
+static int is_code(const char *text, event_code *found) {
+    unsigned number = 0;
+    for (int i = 0; i < CODE_LENGTH; i++) {
+        int digit = digit_of(text[i]);
+        if (digit < 0) return 0;
+        number = number << 4 | (unsigned)digit;
+    }
+    found->select = (unsigned char)(number >> 8);
+    found->umask = (unsigned char)number;
     return 1;
 }
 
@@ -57,30 +69,24 @@ static int kind_at(const char *text, unsigned *length) {
     return LINE_KINDS;
 }
 
-static void add_head(kind_lines *to, const char *code) {
-    const char made[HEAD_LENGTH + 1] = {'0', ' ', code[0], code[1], ' ', code[2], code[3], ' ', 'u', 0};
-    for (int i = 0; i <= HEAD_LENGTH; i++) to->of[to->count][i] = made[i];
-    to->count++;
-}
-
 /* The codes of a kind, up to the end or a comma. Gives where that is, or NULL if they are not right. */
-static const char *read_heads(const char *text, kind_lines *to) {
+static const char *read_kind(const char *text, kind_codes *to) {
     for (;;) {
-        if (to->count == MOST_HEADS || !is_code(text)) return 0;
-        add_head(to, text);
+        if (to->count == MOST_CODES || !is_code(text, &to->of[to->count])) return 0;
+        to->count++;
         text += CODE_LENGTH;
         if (*text != '+') return *text == 0 || *text == ',' ? text : 0;
         text++;
     }
 }
 
-int read_codes(const char *text, line_codes to) {
+int read_codes(const char *text, all_codes to) {
     for (int kind = 0; kind < LINE_KINDS; kind++) to[kind].count = 0;
     while (*text) {
         unsigned length;
         int kind = kind_at(text, &length);
         if (kind == LINE_KINDS || to[kind].count) return 0;
-        text = read_heads(text + length, &to[kind]);
+        text = read_kind(text + length, &to[kind]);
         if (!text) return 0;
         text += *text == ',';
     }

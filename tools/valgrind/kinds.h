@@ -4,7 +4,7 @@
 #include "protocol.h"
 
 enum {
-    LOAD_HITS = KL_KINDS, /* loads that are no KL_L1D_LOAD_MISSES; noted one by one if the lines have a code for them */
+    LOAD_HITS = KL_KINDS, /* loads that are no KL_L1D_LOAD_MISSES; noted one by one if they have a code */
     LINE_KINDS,           /* all kinds up to here have lines */
     /* A conditional branch is counted before its outcome is known, and put right afterwards. */
     LEFT_TAKEN = LINE_KINDS, /* it leaves its block if it is taken */
@@ -24,16 +24,17 @@ enum {
 
 extern const char *const kind_names[ALL_KINDS];
 
-/* The lines of one occurrence of a kind up to their amounts (docs/FORMATS.md), such as "0 c0 00 u". No two of them have the same select code. */
-#define MOST_HEADS 8
-#define HEAD_LENGTH 9
-typedef struct { unsigned count; char of[MOST_HEADS][HEAD_LENGTH + 1]; } kind_lines;
-typedef kind_lines line_codes[LINE_KINDS];
+/* The native events that one occurrence of a kind is of, all of component 0 and in user mode (docs/FORMATS.md). No two of them have the same select code. */
+#define MOST_CODES 8
+typedef struct { unsigned char select, umask; } event_code;
+typedef struct { unsigned count; event_code of[MOST_CODES]; } kind_codes;
+#define CODE_FORMAT "0 %02x %02x u" /* of it in a line, up to the amount */
+typedef kind_codes all_codes[LINE_KINDS];
 
 /* Those of examples/recorded.unit. */
-extern const line_codes recorded_codes;
+extern const all_codes recorded_codes;
 
-/* Reads codes: `KIND:SSUU+SSUU,..`, a select code and a umask in hexadecimal digits for each line. A kind that is not named has none. Gives whether they are right. */
-int read_codes(const char *text, line_codes to);
+/* Reads codes: `KIND:SSUU+SSUU,..`, a select code and a umask in hexadecimal digits for each. A kind that is not named has none. Gives whether they are right. */
+int read_codes(const char *text, all_codes to);
 
 #endif

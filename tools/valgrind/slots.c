@@ -66,16 +66,16 @@ UInt slot_of(UInt kind, Addr pc) {
 UInt slot_kind(UInt number) { return slots[number].kind; }
 Addr slot_pc(UInt number) { return slots[number].pc; }
 
-static void make_line(full_line *line, const HChar *head, Addr pc) {
-    line->digits = (UChar)VG_(sprintf)(line->text, "%s ", head);
+static void make_line(full_line *line, event_code of, Addr pc) {
+    line->digits = (UChar)VG_(sprintf)(line->text, CODE_FORMAT " ", of.select, of.umask);
     line->place = (UChar)(line->digits + VG_(sprintf)(line->text + line->digits, "%d", words.most_amount));
     line->length = (UChar)(line->place + VG_(sprintf)(line->text + line->place, " %lx\n", pc));
 }
 
 static full_lines *make_lines(const slot *s) {
-    const kind_lines *heads = words.codes + s->kind;
-    full_lines *lines = VG_(calloc)("slots", 1, sizeof *lines + heads->count * sizeof *lines->of);
-    for (; lines->count < heads->count; lines->count++) make_line(&lines->of[lines->count], heads->of[lines->count], s->pc);
+    const kind_codes *codes = words.codes + s->kind;
+    full_lines *lines = VG_(calloc)("slots", 1, sizeof *lines + codes->count * sizeof *lines->of);
+    for (; lines->count < codes->count; lines->count++) make_line(&lines->of[lines->count], codes->of[lines->count], s->pc);
     return lines;
 }
 

@@ -62,7 +62,7 @@ static Bool take_costs(const HChar *word) {
 }
 
 static Bool take_codes(const HChar *word) {
-    static line_codes own;
+    static all_codes own;
     const HChar *text;
     if (!VG_STR_CLO(word, "--codes", text)) return False;
     if (!read_codes(text, own)) VG_(fmsg_bad_option)(word, "KIND:SSUU+SSUU,..\n");
@@ -186,7 +186,10 @@ void words_print(void) {
 }
 
 void words_print_kinds(void) {
-    for (UInt kind = 0; kind < LINE_KINDS; kind++)
-        VG_(printf)("    kind %u %s %s\n", kind, kind_names[kind],
-                    recorded_codes[kind].count ? recorded_codes[kind].of[0] : "-");
+    for (UInt kind = 0; kind < LINE_KINDS; kind++) {
+        const kind_codes *codes = &recorded_codes[kind];
+        VG_(printf)("    kind %u %s ", kind, kind_names[kind]);
+        if (codes->count) VG_(printf)(CODE_FORMAT "\n", codes->of[0].select, codes->of[0].umask);
+        else VG_(printf)("-\n");
+    }
 }

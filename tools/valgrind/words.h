@@ -33,7 +33,7 @@ typedef struct {
     ULong kinds;            /* a bit for each that counts */
     Long mhz, window;       /* window: instructions */
     Int most_amount;        /* of a line */
-    const kind_lines *codes; /* of the lines */
+    const kind_codes *codes;
     shape l1d, l1i, l2, l3, dtlb, itlb;
     Int predictor_bits; /* 0: there is none */
     ULong costs[COSTS];

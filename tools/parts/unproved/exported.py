@@ -29,12 +29,14 @@ VALUES = {
     "&mut u32": "&mut word",
     "&mut StreamFault": "&mut fault",
     "&mut [Passing]": "&mut passings",
+    "&Occurrences": "&what",
 }
 LENGTH = "&mut u64"
 LENGTHS = ("&mut length", "&mut other_length")  # no two parameters are lent the same
 BEGINNING = """
 use crate::faults::StreamFault;
 use crate::handle::Handle;
+use crate::happening::Occurrences;
 use crate::running::Passing;
 use std::env;
 use std::process::ExitCode;
@@ -57,6 +59,14 @@ fn main(rt: HostRuntime) -> ExitCode {
     let mut other_length = 0u64;
     let mut passings = [Passing { set: 0, index: 0, address: 0 }; 4];
     let mut fault = StreamFault { line: 0, cause: 0 };
+    let what = Occurrences {
+        address: which as u64,
+        amount: which,
+        component: which as u8,
+        select: which as u8,
+        umask: which as u8,
+        kernel: which as u8,
+    };
     let mut sum = 0i32;
 """
 END = """    if sum == 77 {
