@@ -43,7 +43,6 @@ class Counting:
     presets: str | None
     cpu: str | None
     keep: str | None
-    window: int
     is_strict: bool = False  # about events without a row
 
 
@@ -120,13 +119,6 @@ def _words(
     )
     words += [f"--function={name}" for name in whole.functions]
     words += ["--profile=yes"] * whole.is_profiled()
-    if counting.keep:
-        words += [
-            "--tape=yes",
-            "--stopped=yes",
-            *codes_of(environment["KISTALUB_UNIT"]).tool_words(),
-            f"--window={counting.window}",
-        ]
     return words
 
 

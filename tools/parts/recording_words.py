@@ -70,7 +70,6 @@ def count_words(name: str) -> argparse.ArgumentParser:
     lines = parser.add_argument_group("the stream")
     lines.add_argument("--keep", metavar="STREAM", help="write what happens while a set of a thread counts to this file, with the number of the thread for %%t and the "
                        "rank of a process of MPI for %%r; without %%t that of the first thread alone")
-    _add_window(lines)
     _add_machine(parser)
     _add_program(parser)
     return parser
@@ -98,11 +97,6 @@ def _add_machine(parser: argparse.ArgumentParser) -> None:
                          "each line of 64 bytes once (turns)")
 
 
-def _add_window(lines: argparse._ArgumentGroup) -> None:
-    lines.add_argument("--window", metavar="N", type=word(_window), default=65_536, help="gather among N instructions (65536): a larger one gives a "
-                       "smaller stream, a smaller one keeps their order better")
-
-
 def _add_program(parser: argparse.ArgumentParser) -> None:
     parser.add_argument("program", metavar="PROGRAM", help="the program to run")
     parser.add_argument("arguments", metavar="ARGS", nargs=argparse.REMAINDER, help="its words").required = False
@@ -115,7 +109,8 @@ def _add_lines(parser: argparse.ArgumentParser) -> None:
                        "examples/recorded.unit")
     lines.add_argument("--each", action="store_true", help="a line for each instruction, load and so on, in their order; without it, those at one "
                        "place are gathered to lines of up to 255")
-    _add_window(lines)
+    lines.add_argument("--window", metavar="N", type=word(_window), default=65_536, help="gather among N instructions (65536): a larger one gives a "
+                       "smaller stream, a smaller one keeps their order better")
     lines.add_argument("--first-thread", action="store_true", help="record the first thread and leave the others out; without it a second thread ends "
                        "the recording into one file, but for processes of MPI")
 

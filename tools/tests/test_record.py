@@ -56,7 +56,7 @@ class UnderValgrind(InFolder):
             self.assertIn("\nthe stream:\n", run_tool(tool, "--help").stdout)
 
     def test_libraries_that_the_environment_names_stay(self) -> None:
-        counting = Counting("a", [], next(iter(MACHINES.values())), str(self.folder), None, None, None, None, 1)
+        counting = Counting("a", [], next(iter(MACHINES.values())), str(self.folder), None, None, None, None)
         folder = str(self.folder).ljust(1024, "/")  # of one length wherever it is
         for before, wanted in ((None, folder), ("/x:/y", f"{folder}:/x:/y")):
             with mock.patch.dict(os.environ, {"LD_LIBRARY_PATH": before or ""}):

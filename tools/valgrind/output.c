@@ -17,7 +17,7 @@
 struct stream {
     Int file; /* or -1 */
     HChar *text;
-    UInt used, taken, room;
+    UInt used, room;
     ULong bytes;
 };
 
@@ -66,10 +66,7 @@ void fail(const HChar *cause) {
 }
 
 static void put(stream *s, const HChar *text, UInt length) {
-    if (s->used + length > s->room) {
-        if (s->file >= 0) stream_flushes(s);
-        else s->text = VG_(realloc)("stream", s->text, s->room *= 2);
-    }
+    if (s->used + length > s->room) stream_flushes(s);
     VG_(memcpy)(s->text + s->used, text, length);
     s->used += length;
     s->bytes += length;
@@ -113,8 +110,8 @@ stream *stream_of(UInt thread_number) {
 }
 
 void stream_puts(stream *s, const HChar *line, UInt length, Addr pc) {
-    if (is_closed || (s->file < 0 && s->used > MOST_STREAM_BYTES)) return; /* nobody can keep more */
-    if (s->file >= 0 && s->bytes + length > MOST_STREAM_BYTES) {
+    if (is_closed || s->file < 0) return;
+    if (s->bytes + length > MOST_STREAM_BYTES) {
         stream_flushes(s);
         report("full %lx", pc);
         VG_(exit)(FAILED);
@@ -134,21 +131,6 @@ void stream_ends(stream *s) {
     if (s->file >= 0) VG_(close)(s->file);
     VG_(free)(s->text);
     VG_(free)(s);
-}
-
-Bool stream_has_kept(const stream *s) { return s->file < 0 && s->taken < s->used; }
-
-UWord stream_takes(stream *s, HChar *to, UWord size) {
-    if (s->file >= 0) return 0;
-    UInt length = s->used - s->taken;
-    if (length > size) {
-        length = (UInt)size;
-        while (length && s->text[s->taken + length - 1] != '\n') length--;
-    }
-    VG_(memcpy)(to, s->text + s->taken, length);
-    s->taken += length;
-    if (s->taken == s->used) s->taken = s->used = 0;
-    return length;
 }
 
 void outputs_close(void) { is_closed = True; }

@@ -19,7 +19,7 @@ void fail(const HChar *cause) __attribute__((noreturn));
 /* The address at which the program was loaded: the first line of each stream says it. */
 void streams_begin(Addr base);
 
-/* A stream: in a file, or kept until it is fetched. */
+/* A stream. Without a file its lines go nowhere. */
 typedef struct stream stream;
 stream *stream_of(UInt thread_number);
 
@@ -27,10 +27,6 @@ stream *stream_of(UInt thread_number);
 void stream_puts(stream *s, const HChar *line, UInt length, Addr pc);
 void stream_flushes(stream *s);
 void stream_ends(stream *s);
-
-/* Takes whole lines of what is kept, up to a size. */
-Bool stream_has_kept(const stream *s);
-UWord stream_takes(stream *s, HChar *to, UWord size);
 
 /* What is not written yet is forgotten, and nothing more is written. */
 void outputs_close(void);

@@ -26,13 +26,12 @@ enum {
     KL_COUNTS, /* (counts, n): the first n counts of the thread so far. Answer: 1 */
     KL_ARM,    /* (kind, period): from now on each `period` occurrences of the kind call the stub; 0 takes that away. Answer: 1, or 0 if there is no such kind */
     KL_PASSED, /* (kl_passed *): what was passed; asked in the stub. Answer: 1 */
-    KL_FETCH,  /* (buffer, size): the lines of the stream since the last fetch, with the tool's word --tape. Answer: the bytes; 0 if there are no more */
     KL_SEE,    /* the address of the thread's counts while it is not stopped, to be read by plain loads: all but CYCLES, STALLS and the conditional branches */
     KL_TIME,   /* (cycles): two numbers: the cycles of all threads so far, whether they counted or not, with those of sleep; and the thread's own. Since version 2. Answer: 1 */
     KL_TURN,   /* (instructions): where the first block of code begins after so many of the thread's instructions the stub is called, once; 0 takes that away. Since version 3. Answer: 1 */
     KL_END
 };
-#define KL_VERSION 3
+#define KL_VERSION 4
 
 typedef struct { unsigned long kind, pc, next; } kl_passed; /* kind: KL_KINDS for a turn; pc: the instruction that passed it; next: where the program goes on */
 

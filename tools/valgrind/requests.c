@@ -86,7 +86,6 @@ Bool answer_request(ThreadId tid, UWord *asked, UWord *answer) {
     case KL_COUNTS: *answer = give_counts(c, (ULong *)asked[1], asked[2]); break;
     case KL_ARM: *answer = threshold_arms(c, asked[1], asked[2]); break;
     case KL_PASSED: *answer = give_passed(c, (kl_passed *)asked[1]); break;
-    case KL_FETCH: *answer = c->tape ? tape_fetch(c, (HChar *)asked[1], asked[2]) : 0; break;
     case KL_SEE: *answer = (UWord)c->counts; break;
     case KL_TIME: *answer = give_time(c, (ULong *)asked[1]); break;
     case KL_TURN: *answer = turn(c, asked[1]); break;

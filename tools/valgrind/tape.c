@@ -313,11 +313,6 @@ void tape_ends_window(core *c) {
     if (t->is_noting) c->check_at = 0;
 }
 
-UWord tape_fetch(core *c, HChar *to, UWord size) {
-    if (!stream_has_kept(c->tape->out)) tape_ends_window(c);
-    return stream_takes(c->tape->out, to, size);
-}
-
 const ULong *tape_totals(void) { return totals; }
 
 void tape_flushes(core *c) { stream_flushes(c->tape->out); }

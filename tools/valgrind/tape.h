@@ -38,9 +38,6 @@ void tape_stops(core *c);
 /* The window ends here: all lines are written. */
 void tape_ends_window(core *c);
 
-/* Takes the lines of a tape without a file. */
-UWord tape_fetch(core *c, HChar *to, UWord size);
-
 /* All that was written, by kinds. */
 const ULong *tape_totals(void);
 
