@@ -44,10 +44,10 @@ uint64_t kl_live_cycles(int of_all) {
     return cycles[of_all ? 0 : 1];
 }
 
-static void add_new(live_thread *live, const kl_amounts *now) {
+static void add_new(live_thread *live, const kl_amounts *seen, const kl_amounts *now) {
     for (uint64_t kinds = live->wanted; kinds; kinds &= kinds - 1) {
         int kind = __builtin_ctzll(kinds);
-        for (unsigned i = 0; i < live->codes[kind].count; i++) live->left[kind][i] += now->of[kind] - live->seen.of[kind];
+        for (unsigned i = 0; i < live->codes[kind].count; i++) live->left[kind][i] += now->of[kind] - seen->of[kind];
     }
 }
 
@@ -56,11 +56,11 @@ static void add_new(live_thread *live, const kl_amounts *now) {
 static void take_new(thread_state *t, uint64_t address) {
     live_thread *live = t->live;
     const int stands = kl_in_handler(t);
-    kl_amounts now;
     if (!kl_core_begins(t)) return;
-    take_counts(&now);
-    if (!stands) add_new(live, &now);
-    live->seen = now;
+    const int next = !live->seen;
+    take_counts(&live->counts[next]);
+    if (!stands) add_new(live, &live->counts[live->seen], &live->counts[next]);
+    live->seen = next;
     if (stands || !live->wanted || live->has_ended) kl_core_ends(t);
     else kl_happen(t, live->wanted, address);
 }
@@ -100,7 +100,7 @@ static void note_sets(thread_state *t) {
     }
     if (live->wanted && kl_keeps(t)) live->wanted = KL_ALL_KINDS;
     kl_ask(live->wanted ? KL_START : KL_STOP, 0, 0, 0);
-    take_counts(&live->seen);
+    take_counts(&live->counts[live->seen]);
     for (int kind = 0; kind < LINE_KINDS; kind++)
         if (!(live->wanted & KL_BIT(kind))) memset(live->left[kind], 0, sizeof live->left[kind]);
 }

@@ -14,7 +14,8 @@ typedef struct { uint64_t of[LINE_KINDS]; } kl_amounts;
 /* What a thread has of it. */
 typedef struct live_thread {
     const kind_codes *codes; /* of the kinds, by the unit */
-    kl_amounts seen;      /* the thread's counts up to which all has happened, but for what is left */
+    kl_amounts counts[2]; /* the thread's counts up to which all has happened, but for what is left, and room for the next ones */
+    int seen;             /* which of the two */
     uint64_t left[LINE_KINDS][MOST_CODES]; /* of kinds that are wanted, by their codes */
     uint64_t wanted;      /* the kinds that a running set counts; all if the stream is kept */
     int is_in_turns;      /* a running set is multiplexed */

@@ -74,6 +74,14 @@ static void end(thread_state *t) {
     fprintf(stderr, "papi: thread %u: nothing more is counted: %u lines of occurrences have happened\n", t->number, UINT32_MAX);
 }
 
+/* A handler may jump out. PAPI_ENOINIT if one ended the library: the thread's state may be gone then. */
+static __attribute__((noinline)) int tell(thread_state *t, const handing *h) {
+    const kl_hold hold = KL_HOLD(0);
+    const int place = kl_hold_on(t, &hold);
+    kl_tell(t, h->passings, h->told);
+    return kl_let_go(t, place);
+}
+
 /* The core has been begun, and ends before the handlers are called. */
 static int happen_until_told(thread_state *t, handing *h) {
     h->told = 0;
@@ -83,16 +91,12 @@ static int happen_until_told(thread_state *t, handing *h) {
     if (KL_RARELY(t->live->kept)) kl_keep_writes(t);
     if (answer == PAPI_EINVAL) end(t);
     kl_core_ends(t);
-    if (h->told) kl_tell(t, h->passings, h->told);
-    return t->has_left ? PAPI_ENOINIT : answer;
+    return h->told && tell(t, h) != PAPI_OK ? PAPI_ENOINIT : answer;
 }
 
 void kl_happen(thread_state *t, uint64_t kinds, uint64_t address) {
-    const kl_hold hold = KL_HOLD(0);
     handing h;
     h.kinds = kinds;
     h.address = address;
-    const int place = kl_hold_on(t, &hold);
     while (happen_until_told(t, &h) == MORE && kl_core_begins(t)) continue;
-    kl_let_go(t, place);
 }

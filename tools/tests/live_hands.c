@@ -17,8 +17,8 @@ static int is_in_core;
 
 int kl_core_begins(thread_state *t) { return t && !is_in_core++; }
 void kl_core_ends(thread_state *t) { is_in_core -= t != NULL; }
-int kl_hold_on(thread_state *t, const kl_hold *hold) { return t && hold ? 0 : 1; }
-int kl_let_go(thread_state *t, int place) { return t ? place : 1; }
+int kl_hold_on(thread_state *t, const kl_hold *hold) { return t && hold ? 5 : 0; }
+int kl_let_go(thread_state *t, int place) { return t->has_left || place != 5 ? PAPI_ENOINIT : PAPI_OK; }
 void kl_keep_adds(thread_state *t, const kistalub_occurrences *what, uint32_t amount) { (void)t, (void)what, (void)amount; }
 void kl_keep_writes(thread_state *t) { (void)t; }
 

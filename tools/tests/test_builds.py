@@ -25,6 +25,7 @@ SCRIPTS = {
     "examples/ranks/group": ("0", "0", "false", NOTHING),
     "examples/ranks/many": (),
     "examples/ranks/run": (),
+    "bench/handing_over": (NOTHING,),
     "bench/live": (NOTHING,),
 }
 COMMANDS = ("cc", "valgrind", "parallel", "mpicc", "mpirun")
