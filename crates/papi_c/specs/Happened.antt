@@ -52,18 +52,18 @@ pub record HasHappened (old new : LibraryView) (what : Happening) (happened : Ha
   pub mentioned : new.mentioned ≡ old.mentioned
 
 -- this was told
-pub record Told (old new : LibraryView) (what : Occurrences) (number : ℤ) (went told : ℕ) (before after : List Passing) : Type 0 where
+pub record Told (old new : LibraryView) (what : Occurrences) (answer : ℤ) (amount count : ℕ) (before after : List Passing) : Type 0 where
   pub happened : Happened
   pub has : HasHappened old new (happening_of what) happened before after
-  pub number : number ≡ halt_number happened.halt
-  pub went : went ≡ happened.amount
-  pub told : told ≡ happened.notes
+  pub number : answer ≡ halt_number happened.halt
+  pub went : amount ≡ happened.amount
+  pub told : count ≡ happened.notes
 
 -- nothing is written by a call on a shut handle: PAPI_ENOINIT
-pub record IsShut (number : ℤ) (was went old_told told : ℕ) (before after : List Passing) : Type 0 where
-  pub number : number ≡ negsuc 15
-  pub went : went ≡ was
-  pub told : told ≡ old_told
+pub record IsShut (answer : ℤ) (old_amount amount old_count count : ℕ) (before after : List Passing) : Type 0 where
+  pub number : answer ≡ negsuc 15
+  pub went : amount ≡ old_amount
+  pub told : count ≡ old_count
   pub kept : after ≡ before
 
 -- the same through a handle

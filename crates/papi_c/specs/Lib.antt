@@ -7,6 +7,7 @@ pub mod Asked
 pub mod Numbers
 pub mod Faults
 pub mod Happened
+pub mod Histories
 pub mod Runs
 pub use Rattle.papi_calls.specs.Libraries
 pub use Rattle.papi_calls.specs.Calls

@@ -5,6 +5,7 @@ mod codes;
 mod faults;
 mod handle;
 mod happening;
+mod laws;
 mod named;
 mod numbers;
 mod opened;
