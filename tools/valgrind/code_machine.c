@@ -20,37 +20,66 @@ static site *new_site(code *c, UInt size, UInt side) {
     return s;
 }
 
-/* Not 0 if a line of the instruction is not what its set used last; NULL if that is known. */
-static IRExpr *fetch_differs(code *c, const cache *part, UInt used, Addr known) {
-    Addr last = (c->pc + c->size - 1) >> part->line_bits;
+/* What code looks at, to tell whether the machine has to be asked: lines, which are known only if
+ * their pages are, or pages alone. NULL if it can't tell. */
+static const cache *looked_at(const cache *lines, const cache *pages) {
+    if (!lines->tags) return pages;
+    return !pages->tags || pages->line_bits >= lines->line_bits ? lines : NULL;
+}
+
+static Addr first_number(const code *c, const cache *part) { return c->pc >> part->line_bits; }
+static Addr last_number(const code *c, const cache *part) {
+    return (c->pc + c->size - 1) >> part->line_bits;
+}
+
+/* Not 0 if a line of the instruction is not known. That of the last fetch is. */
+static IRExpr *fetch_differs(code *c, const cache *part, UInt tags, Addr known) {
     IRExpr *differs = NULL;
-    if (!part->tags) return NULL;
-    for (Addr number = c->pc >> part->line_bits; number <= last; number++) {
-        IRExpr *used_last = number == known ? NULL : code_load_at(c, used + 8UL * (number & part->last_set));
-        if (used_last) differs = code_or(c, differs, code_two(c, Iop_Xor64, used_last, code_word(number << part->line_bits)));
+    for (Addr number = first_number(c, part); number <= last_number(c, part); number++) {
+        if (number == known) continue;
+        ULong set = number & part->last_set, line = number << part->line_bits;
+        IRExpr *first = code_load_at(c, tags + set * part->ways * sizeof *part->tags);
+        differs = code_or(c, differs, code_two(c, Iop_Xor64, first, code_word(line)));
     }
     return differs;
 }
 
-void code_fetches(code *c) {
-    const cache *lines = &current->l1i, *pages = &current->itlb;
-    Addr last = c->pc + c->size - 1;
-    IRExpr *differs = code_or(c, fetch_differs(c, lines, layout.l1i_used, c->fetched_line), fetch_differs(c, pages, layout.itlb_used, c->fetched_page));
-    if (!differs) return;
-    IRExpr *guard = code_is(c, Iop_CmpNE64, differs, code_word(0));
-    code_call(c, guard, "model_sees_fetch", model_sees_fetch, mkIRExprVec_1(code_word((Addr)new_site(c, c->size, BY_FETCH))));
-    code_asks_machine(c);
-    c->fetched_line = last >> lines->line_bits;
-    c->fetched_page = last >> pages->line_bits;
+static Bool is_fetched(const code *c, const cache *part, Addr known) {
+    return !part->tags || (first_number(c, part) == known && last_number(c, part) == known);
 }
 
-/* Not 0 if an access is not in what its set used last, or not aligned to its size, so that it might be in two. */
-static IRExpr *access_differs(code *c, const cache *part, UInt used, IRExpr *address, UInt size) {
-    if (!part->tags) return NULL;
-    IRExpr *number = code_two(c, Iop_And64, code_shifted(c, Iop_Shr64, address, part->line_bits), code_word(part->last_set));
-    IRExpr *at = code_two(c, Iop_Add64, code_two(c, Iop_Add64, c->base, code_shifted(c, Iop_Shl64, number, 3)), code_word(used));
+void code_fetches(code *c) {
+    const cache *lines = &current->l1i, *pages = &current->itlb, *part = looked_at(lines, pages);
+    Bool looks_at_lines = part == lines;
+    UInt tags = looks_at_lines ? layout.l1i : layout.itlb;
+    Addr known = looks_at_lines ? c->fetched_line : c->fetched_page;
+    if (is_fetched(c, lines, c->fetched_line) && is_fetched(c, pages, c->fetched_page)) return;
+    IRExpr *differs = part ? fetch_differs(c, part, tags, known) : NULL;
+    IRExpr *guard = differs ? code_is(c, Iop_CmpNE64, differs, code_word(0)) : NULL;
+    IRExpr **arguments = mkIRExprVec_1(code_word((Addr)new_site(c, c->size, BY_FETCH)));
+    code_call(c, guard, "model_sees_fetch", model_sees_fetch, arguments);
+    code_asks_machine(c);
+    c->fetched_line = last_number(c, lines);
+    c->fetched_page = last_number(c, pages);
+}
+
+/* The set of an address, in bytes from the first one. */
+static IRExpr *set_at(code *c, const cache *part, IRExpr *address) {
+    ULong bytes = sizeof *part->tags * part->ways, last = part->last_set;
+    if (bytes == 1UL << part->line_bits)
+        return code_two(c, Iop_And64, address, code_word(last << part->line_bits));
+    IRExpr *number = code_shifted(c, Iop_Shr64, address, part->line_bits);
+    number = code_two(c, Iop_And64, number, code_word(last));
+    return code_two(c, Iop_Mul64, number, code_word(bytes));
+}
+
+/* Not 0 if an access is not in a line that is known, or not aligned to its size, so that it might
+ * be in two. */
+static IRExpr *access_differs(code *c, const cache *part, UInt tags, IRExpr *address, UInt size) {
+    IRExpr *set = code_two(c, Iop_Add64, set_at(c, part, address), c->base);
+    IRExpr *first = code_load(c, code_two(c, Iop_Add64, set, code_word(tags)));
     ULong bits = (~0UL << part->line_bits) | (size - 1);
-    return code_two(c, Iop_And64, code_two(c, Iop_Xor64, address, code_load(c, at)), code_word(bits));
+    return code_two(c, Iop_And64, code_two(c, Iop_Xor64, address, first), code_word(bits));
 }
 
 /* Loads that find their line are on the tape, if its lines have a code for them. */
@@ -58,12 +87,11 @@ static Bool notes_hits(const access *a) { return a->loads && words.has_tape && w
 
 /* Not 0 if the machine has to be asked; NULL if it always has. */
 static IRExpr *machine_differs(code *c, const access *a) {
-    const cache *lines = &current->l1d, *pages = &current->dtlb;
-    Bool is_small = a->size && !(a->size & (a->size - 1)) && (!lines->tags || a->size <= 1UL << lines->line_bits) && (!pages->tags || a->size <= 1UL << pages->line_bits);
+    const cache *lines = &current->l1d, *part = looked_at(lines, &current->dtlb);
+    Bool is_power = a->size && !(a->size & (a->size - 1));
+    Bool is_small = part && is_power && a->size <= 1UL << part->line_bits;
     if (!is_small || a->guard || notes_hits(a)) return NULL;
-    IRExpr *line_differs = access_differs(c, lines, layout.l1d_used, a->address, a->size);
-    IRExpr *page_differs = access_differs(c, pages, layout.dtlb_used, a->address, a->size);
-    return code_or(c, line_differs, page_differs);
+    return access_differs(c, part, part == lines ? layout.l1d : layout.dtlb, a->address, a->size);
 }
 
 /* An access of which a mask chooses the elements. */

@@ -30,19 +30,19 @@ static SizeT core_size(void) {
     return size;
 }
 
-/* Makes a cache of a core, and says where its lines that were used last stand. */
+/* Makes a cache of a core, and says where its lines stand. */
 static UInt place_cache(core *c, cache *part, const shape *s, SizeT *used) {
     cache_begins(part, s, (UChar *)c + *used);
     *used += ROUNDED(cache_room(s));
-    return part->tags ? (UInt)((UChar *)part->used_last - (UChar *)c) : 0;
+    return part->tags ? (UInt)((UChar *)part->tags - (UChar *)c) : 0;
 }
 
 static void make_machine(core *c) {
     SizeT used = ROUNDED(sizeof(core));
-    layout.l1d_used = place_cache(c, &c->l1d, &words.l1d, &used);
-    layout.dtlb_used = place_cache(c, &c->dtlb, &words.dtlb, &used);
-    layout.l1i_used = place_cache(c, &c->l1i, &words.l1i, &used);
-    layout.itlb_used = place_cache(c, &c->itlb, &words.itlb, &used);
+    layout.l1d = place_cache(c, &c->l1d, &words.l1d, &used);
+    layout.dtlb = place_cache(c, &c->dtlb, &words.dtlb, &used);
+    layout.l1i = place_cache(c, &c->l1i, &words.l1i, &used);
+    layout.itlb = place_cache(c, &c->itlb, &words.itlb, &used);
     place_cache(c, &c->l2, &words.l2, &used);
     layout.counters = (UInt)used;
     predictor_begins(&c->branches, (unsigned)words.predictor_bits, (UChar *)c + used);

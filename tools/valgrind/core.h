@@ -41,7 +41,7 @@ typedef struct {
 } core;
 
 /* Where parts of a core begin that have their sizes from the tool's words. */
-typedef struct { UInt l1d_used, l1i_used, dtlb_used, itlb_used, counters; } core_layout;
+typedef struct { UInt l1d, l1i, dtlb, itlb, counters; } core_layout;
 extern core_layout layout;
 
 extern core *current;

@@ -15,11 +15,16 @@ typedef struct { uint64_t lines, ways, bytes_of_line; } shape;
 
 /* Lines, or pages, in sets of `ways`. */
 typedef struct {
-    uint64_t *tags;      /* set by set, those of a set in the order of their use; NULL if the cache is left out */
-    uint64_t *used_last; /* the address of the line of each set that was used last, for code that looks there itself */
+    uint64_t *tags;  /* set by set: lines by their addresses, in the order of their use; or NULL */
+    uint64_t *known; /* of pages, by set: bits of the sets that know lines of its first page */
     uint64_t last_set;
     unsigned ways, line_bits;
 } cache;
+
+/* A line is known if its set used it last, and so did that of its page: using it again changes
+ * nothing. So code needs only look at the first tag of the set: if that line is not known, it has
+ * this bit too. A set of lines has the bit of its number modulo 64 in `known`. */
+#define IS_UNKNOWN (UINT64_C(1) << 63)
 
 /* Gshare: counters of two bits, found by the branch's address and what the branches before it did. */
 typedef struct { uint64_t history, last; uint8_t *counters; } predictor;
@@ -34,11 +39,27 @@ bool shape_is_right(const shape *s);
 size_t cache_room(const shape *s);
 void cache_begins(cache *c, const shape *s, void *room);
 
+static inline uint64_t line_of_address(const cache *c, uint64_t address) {
+    return (address & ~IS_UNKNOWN) >> c->line_bits << c->line_bits;
+}
+
+/* That of the last byte of an access. */
+static inline uint64_t last_line(const cache *c, uint64_t address, uint64_t size) {
+    return line_of_address(c, address + (size ? size - 1 : 0));
+}
+
+static inline uint64_t set_number(const cache *c, uint64_t line) {
+    return line >> c->line_bits & c->last_set;
+}
+
+static inline uint64_t *set_of(const cache *c, uint64_t line) {
+    return c->tags + set_number(c, line) * c->ways;
+}
+
 static inline bool line_misses(cache *c, uint64_t line) {
-    uint64_t number = line & c->last_set, *set = c->tags + number * c->ways, before = set[0];
-    if (before == line) return false;
-    c->used_last[number] = line << c->line_bits;
+    uint64_t *set = set_of(c, line), before = set[0] & ~IS_UNKNOWN;
     set[0] = line;
+    if (before == line) return false;
     for (unsigned way = 1; way < c->ways; way++) {
         uint64_t now = set[way];
         set[way] = before;
@@ -50,13 +71,17 @@ static inline bool line_misses(cache *c, uint64_t line) {
 
 /* Uses the lines of `size` bytes from an address on, and says whether one of them was not there. */
 static inline bool cache_misses(cache *c, uint64_t address, uint64_t size) {
-    uint64_t line = address >> c->line_bits;
-    uint64_t last = (address + (size ? size - 1 : 0)) >> c->line_bits;
+    uint64_t line = line_of_address(c, address), last = last_line(c, address, size);
     bool misses = line_misses(c, line);
     while (line < last)
-        if (line_misses(c, ++line)) misses = true;
+        if (line_misses(c, line += UINT64_C(1) << c->line_bits)) misses = true;
     return misses;
 }
+
+/* The same of pages, and of lines in them: which lines are known is kept. The other one of the two
+ * may be left out. */
+bool pages_miss(cache *pages, const cache *lines, uint64_t address, uint64_t size);
+bool lines_miss(cache *lines, const cache *pages, uint64_t address, uint64_t size);
 
 /* Makes a predictor with 2^bits counters, a byte for each, weakly not taken. */
 void predictor_begins(predictor *p, unsigned bits, uint8_t *counters);

@@ -60,8 +60,8 @@ static void ask_levels(core *c, site *s, Addr address) {
 }
 
 /* Nobody's machine only knows what was used last, so that generated code seldom asks. */
-static void use(cache *part, Addr address) {
-    if (part->tags) part->used_last[address >> part->line_bits & part->last_set] = address >> part->line_bits << part->line_bits;
+static void use(const cache *part, Addr address) {
+    if (part->tags) *set_of(part, line_of_address(part, address)) = line_of_address(part, address);
 }
 
 /* An access that needs the next line too. Generated code comes here with each that is not aligned. */
@@ -77,11 +77,11 @@ static void meet(core *c, site *s, Addr address, cache *pages, cache *lines) {
         use(lines, address);
         return;
     }
-    if (pages->tags && cache_misses(pages, address, s->size)) {
+    if (pages->tags && pages_miss(pages, lines, address, s->size)) {
         happens(c, s, PAGE_MISS);
         stall(c, s, PAGE_MISSED);
     }
-    if (lines->tags && cache_misses(lines, address, s->size)) {
+    if (lines->tags && lines_miss(lines, pages, address, s->size)) {
         happens(c, s, OWN_MISS);
         ask_levels(c, s, address);
     } else if (s->notes_hits && c->tape) put_on_tape(c, s, OWN_HIT, 1);
