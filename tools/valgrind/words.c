@@ -123,6 +123,7 @@ Bool words_take(const HChar *word) {
     if (VG_BOOL_CLO(word, "--model", words.has_model)) return True;
     if (VG_BOOL_CLO(word, "--counts", words.has_counts)) return True;
     if (VG_BOOL_CLO(word, "--further", words.has_further)) return True;
+    if (VG_BOOL_CLO(word, "--check-blocks", words.checks_blocks)) return True;
     if (VG_BOOL_CLO(word, "--totals", words.shows_totals)) return True;
     if (VG_BINT_CLO(word, "--predictor", bits, 0, MOST_PREDICTOR_BITS)) {
         words.predictor_bits = (Int)bits;
@@ -160,6 +161,7 @@ void words_print(void) {
                 "    --costs=L2,L3,MEMORY,PAGE,BRANCH   cycles beside the one of each instruction [8,38,200,20,16]\n"
                 "    --counts=yes|no          counts of all kinds, for requests [yes]\n"
                 "    --further=yes|no         also what only other tools count, and accesses as they see them [no]\n"
+                "    --check-blocks=yes|no    look whether each block is well formed [no]\n"
                 "    --rep=turns|lines        what an instruction with rep accesses: something in each turn, or each line once [turns]\n"
                 "    --totals=yes|no          print the counts of each thread when it ends [no]\n"
                 "    --library=yes|no         count what the library does too, to measure it [no]\n"

@@ -16,6 +16,7 @@ typedef struct {
     Bool has_profile; /* of functions and lines (profile.h) */
     Bool is_partial;  /* only some kinds count: no library can be served */
     Bool has_counts;  /* of all kinds, for requests */
+    Bool checks_blocks; /* Libvex looks at each whether it is well formed */
     Bool has_further; /* kinds that only other tools count, and accesses as they see them */
     Bool has_tape;    /* lines of a stream */
     Bool is_each;     /* a line for each occurrence */
