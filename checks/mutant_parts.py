@@ -71,6 +71,7 @@ PARTS = {
     "count_whole": Part(_parts("attended", "count_files", "count_table", "elf_file", "event_sums", "kinds", "papi_program", "processes", "whole", "whole_counts", "whole_words"),
                         "test_count_whole test_count_functions test_elf_file test_looked_at test_count", is_pure=False),
     "compare": Part(("tools/compare", *_all("tools/parts/compare/*.py")), "test_compare test_compare_texts"),
+    "plan": Part(("tools/plan", *_parts("event_refusals"), *_all("tools/parts/planning/*.py")), "test_plan test_count_whole", is_pure=False),
     "c": Part(_all("c/*.c"), command=("examples/c/check",), is_pure=False),
 }
 

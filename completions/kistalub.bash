@@ -94,4 +94,4 @@ _kistalub() {
     done
 }
 
-complete -F _kistalub papi_avail papi_compare papi_count papi_decode papi_encode papi_event_chooser papi_native_avail papi_profil papi_record papi_regions papi_run papi_soak
+complete -F _kistalub papi_avail papi_compare papi_count papi_decode papi_encode papi_event_chooser papi_native_avail papi_plan papi_profil papi_record papi_regions papi_run papi_soak

@@ -16,6 +16,6 @@ function __kistalub_candidates
     end
 end
 
-for tool in papi_avail papi_compare papi_count papi_decode papi_encode papi_event_chooser papi_native_avail papi_profil papi_record papi_regions papi_run papi_soak
+for tool in papi_avail papi_compare papi_count papi_decode papi_encode papi_event_chooser papi_native_avail papi_plan papi_profil papi_record papi_regions papi_run papi_soak
     complete -c $tool -f -a '(__kistalub_candidates)'
 end

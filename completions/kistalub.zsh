@@ -1,4 +1,4 @@
-#compdef papi_avail papi_compare papi_count papi_decode papi_encode papi_event_chooser papi_native_avail papi_profil papi_record papi_regions papi_run papi_soak
+#compdef papi_avail papi_compare papi_count papi_decode papi_encode papi_event_chooser papi_native_avail papi_plan papi_profil papi_record papi_regions papi_run papi_soak
 # Completion of the tools for zsh: source this file after compinit, or put a link to it into a folder of fpath, as _kistalub.
 _kistalub_folder=${${(%):-%x}:A:h}
 
@@ -19,5 +19,5 @@ _kistalub() {
 if [[ ${funcstack[1]-} == _kistalub* ]]; then
     _kistalub
 else
-    compdef _kistalub papi_avail papi_compare papi_count papi_decode papi_encode papi_event_chooser papi_native_avail papi_profil papi_record papi_regions papi_run papi_soak
+    compdef _kistalub papi_avail papi_compare papi_count papi_decode papi_encode papi_event_chooser papi_native_avail papi_plan papi_profil papi_record papi_regions papi_run papi_soak
 fi

@@ -23,6 +23,7 @@ class Page:
     line: str  # the words as a synopsis has them
     statuses: tuple[tuple[str, str], ...]
     examples: tuple[tuple[str, str], ...]  # what it does, and the command
+    see: str = "docs/RECORDING.md says what is recorded, and how the machine is modelled."
     titles: tuple[str, str] = OWN_TITLES  # of the words without a name, and of those with one
 
 
@@ -110,5 +111,5 @@ def command_page(parser: argparse.ArgumentParser, page: Page, date: str) -> str:
     lines += [".Sh EXAMPLES"]
     for number, (title, command) in enumerate(page.examples):
         lines += [".Pp"] * (number > 0) + [*sentences(title), ".Bd -literal -offset indent", escaped(f"$ {command}"), ".Ed"]
-    lines += [".Sh SEE ALSO", "docs/RECORDING.md says what is recorded, and how the machine is modelled."]
+    lines += [".Sh SEE ALSO", page.see]
     return "\n".join(lines) + "\n"

@@ -20,7 +20,7 @@ ALL = "all"
 VERSION_FILE = Path(__file__).resolve().parent.parent.parent / "VERSION"
 
 
-def _file(path: str) -> dict[str, str]:
+def file_told(path: str) -> dict[str, str]:
     return {"name": os.path.basename(path), "sha256": hashlib.sha256(read_bytes(path)).hexdigest()}
 
 
@@ -48,8 +48,8 @@ def as_json(
         "format": FORMAT,
         "version": VERSION,
         "command": list(counts.command),
-        "unit": _file(files["KISTALUB_UNIT"]),
-        "presets": _file(files["KISTALUB_PRESETS"]),
+        "unit": file_told(files["KISTALUB_UNIT"]),
+        "presets": file_told(files["KISTALUB_PRESETS"]),
         "cpu": files["KISTALUB_CPU"],
         "machine": _machine(machine),
         "tool": _tool(),

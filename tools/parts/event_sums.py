@@ -11,7 +11,8 @@ from typing import Container, Mapping, NoReturn, Sequence
 from parts.command import Fault
 from parts.started import temporary_folder
 from parts.kinds import Kind
-from parts.papi_program import ask_program
+from parts.event_refusals import refusals_of
+from parts.papi_program import ask_program, cause_of
 
 MOST_THREADS = 64  # of a script
 AMOUNTS = (
@@ -23,7 +24,6 @@ MOST_VALUES = 256  # user events of a preset file
 PRESET_SIGN = "PAPI_"
 POSTFIX = "DERIVED_POSTFIX"
 COUNT = re.compile("N([0-9]+)")
-HINT = re.compile(r"hint: line ([0-9]+): add 0 \S+: (.*)")
 WRAP = 1 << 64
 
 
@@ -127,7 +127,7 @@ def _rules(files: Files, names: Sequence[str]) -> dict[str, Rule]:
     decoded = ask_program("papi_decode", *files.words(), "--quiet")
     if decoded.returncode:
         raise Fault(
-            _cause(decoded.stderr) or f"papi_decode: status {decoded.returncode}",
+            cause_of(decoded.stderr) or f"papi_decode: status {decoded.returncode}",
             decoded.returncode,
         )
     for row in decoded.stdout.splitlines():
@@ -143,12 +143,6 @@ def _rules(files: Files, names: Sequence[str]) -> dict[str, Rule]:
 # -- the program's answers --
 
 
-def _cause(text: str) -> str:
-    """The line of what the program says that tells what is wrong."""
-    lines = [line for line in text.splitlines() if not line.startswith("hint: ")]
-    return lines[0].removeprefix("papi: ") if lines else ""
-
-
 def _check_form(names: Sequence[str]) -> None:
     for name in names:
         if not name or re.search(r"[^!-~]", name):
@@ -160,20 +154,9 @@ def _check_form(names: Sequence[str]) -> None:
 
 def _tell_refused(files: Files, names: Sequence[str]) -> NoReturn:
     """The code and the hint of the first one that a set refuses."""
-    with temporary_folder("count-") as folder:
-        (folder / "script").write_text(
-            "0 create\n" + "".join(f"0 add 0 {name}\n0 cleanup 0\n" for name in names),
-            encoding="ascii",
-        )
-        done = ask_program("papi_run", *files.words(), str(folder / "script"))
-    hints = {
-        match[1]: match[2] for match in filter(None, map(HINT.fullmatch, done.stderr.splitlines()))
-    }
-    replies = [words for words in map(str.split, done.stdout.splitlines()) if words[2] == "add"]
-    for name, words in zip(names, replies):
-        if words[3] != "PAPI_OK":
-            raise Fault(": ".join(filter(None, (name, words[3], hints.get(words[0], "")))))
-    raise Fault(_cause(done.stderr) or f"papi_run can't be asked: status {done.returncode}")
+    for each in refusals_of(files.words(), names):
+        raise Fault(str(each))
+    raise Fault("a set takes each of the events, and papi_run counted not all of them")
 
 
 def _weights(
@@ -221,7 +204,7 @@ def _weights_of(
             values.setdefault(int(words[1]), [0]).append(int(words[4]))
     if done.returncode:
         raise Fault(
-            _cause(done.stderr) or f"papi_run can't be asked: status {done.returncode}",
+            cause_of(done.stderr) or f"papi_run can't be asked: status {done.returncode}",
             done.returncode,
         )
     taken = {name: values[thread] for thread, name in enumerate(names) if thread in values}
@@ -311,5 +294,5 @@ def _by_rule(files: Files, asked: Sequence[tuple[Sum, Mapping[str, int]]]) -> li
         if words[2] == "stop" and words[3] == "PAPI_OK"
     ]
     if done.returncode or len(stops) != len(asked):
-        raise Fault(f"papi_run can't be asked: status {done.returncode}: {_cause(done.stderr)}")
+        raise Fault(f"papi_run can't be asked: status {done.returncode}: {cause_of(done.stderr)}")
     return [int(words[4]) for words in stops]

@@ -41,3 +41,9 @@ def ask_program(tool: str, *words: str) -> subprocess.CompletedProcess[str]:
         line for line in done.stderr.splitlines(keepends=True) if not line.startswith(UNPROVED)
     )
     return done
+
+
+def cause_of(said: str) -> str:
+    """The line of what the program says that tells what is wrong."""
+    lines = [line for line in said.splitlines() if not line.startswith("hint: ")]
+    return lines[0].removeprefix("papi: ") if lines else ""

@@ -56,7 +56,7 @@ def with_list(name: str, text: str, head: str, lines: list[str]) -> str:
 # ---- names on a line
 
 # Programs of tools/ that are installed beside the tools.
-PROGRAMS = ("papi_compare", "papi_count", "papi_record")
+PROGRAMS = ("papi_compare", "papi_count", "papi_plan", "papi_record")
 # Files with the names of all tools and of these in a row, after these texts.
 NAMES = {
     "completions/kistalub.bash": ("complete -F _kistalub ",),

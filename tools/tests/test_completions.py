@@ -344,4 +344,4 @@ class Installed(InFolder):
     def test_zsh_is_told_the_names(self) -> None:
         with open(f"{self.prefix}/share/zsh/site-functions/_kistalub-x", encoding="ascii") as file:
             names = file.readline().split()
-        self.assertEqual(names, ["#compdef", *sorted(f"{name}-x" for name in (*NAMES, "papi_compare", "papi_count", "papi_record"))])
+        self.assertEqual(names, ["#compdef", *sorted(f"{name}-x" for name in (*NAMES, "papi_compare", "papi_count", "papi_plan", "papi_record"))])

@@ -17,7 +17,7 @@ from tests.support import ROOT, InFolder, some
 
 PARTS = ("bin", "include", "man", "completions", "tools", "VERSION", "examples/recorded.unit", "examples/recorded.presets")
 BUILD = '#!/bin/sh\necho "$$" >"${WAITS:-/dev/null}"\n[ -z "${WAITS-}" ] || sleep 60\necho a >"$1/libkistalub.a"\necho so >"$1/libpapi.so.7.0"\n'
-PROGRAMS = ["papi_compare", "papi_count", "papi_record"]
+PROGRAMS = ["papi_compare", "papi_count", "papi_plan", "papi_record"]
 TOOLS = sorted(path.name for path in (ROOT / "bin").glob("papi_*"))
 USAGE = "usage: install [--uninstall] [--program-suffix SUFFIX] PREFIX\n"
 PATIENCE = 30  # seconds
@@ -192,7 +192,7 @@ class Install(InFolder):
 
     def test_recording_finds_its_parts(self) -> None:
         self.install(self.prefix)
-        for tool in ("papi_record", "papi_count", "papi_compare"):
+        for tool in ("papi_record", "papi_count", "papi_compare", "papi_plan"):
             done = subprocess.run([str(self.prefix / "bin" / tool), "--help"], capture_output=True, text=True)
             self.assertEqual((done.returncode, done.stderr, done.stdout.startswith(f"usage: {tool} ")), (0, "", True), done.stderr)
         page = "import sys; sys.path.insert(0, sys.argv[1]); from parts.report.frame import Top, framed; print(framed(Top('', '', [], '', ''), [], ''))"

@@ -62,7 +62,7 @@ class Package(InFolder):
         unpacked = self.folder / "unpacked"
         self.ask("--extract", package, str(unpacked))
         tools = {path.name for path in (unpacked / "usr/bin").iterdir()}
-        self.assertEqual(tools, {f"{path.name}-model" for path in (ROOT / "bin").glob("papi_*")} | {"papi_compare-model", "papi_count-model", "papi_record-model"})
+        self.assertEqual(tools, {f"{path.name}-model" for path in (ROOT / "bin").glob("papi_*")} | {"papi_compare-model", "papi_count-model", "papi_plan-model", "papi_record-model"})
         place = subprocess.run(["dpkg-architecture", "-q", "DEB_HOST_MULTIARCH"], check=True, capture_output=True, text=True).stdout.strip()
         for name in ("lib/libkistalub.a", f"lib/{place}/pkgconfig/kistalub.pc", "lib/kistalub/lib/libpapi.so", "include/kistalub/papi.h", "share/doc/kistalub/copyright",
                      "share/doc/kistalub/changelog.gz", "share/man/man1/papi_run-model.1.gz", "lib/python3/dist-packages/kistalub/VERSION"):  # fmt: skip

@@ -127,7 +127,7 @@ class MakeTools(unittest.TestCase):
             with self.assertRaisesRegex(Fault, "a.md: does not have once: Head:"):
                 with_list("a.md", text, "Head:\n\n", ["new"])
         tools = read_tools(HEAD + LINE)
-        self.assertEqual(with_names("a", "for papi_a papi_b\nfor papi_a in\n", "for ", tools), "for papi_compare papi_count papi_record papi_some\nfor papi_a in\n")
+        self.assertEqual(with_names("a", "for papi_a papi_b\nfor papi_a in\n", "for ", tools), "for papi_compare papi_count papi_plan papi_record papi_some\nfor papi_a in\n")
         with self.assertRaisesRegex(Fault, "a: does not have once: for papi_.."):
             with_names("a", "for\n", "for ", tools)
 

@@ -1,4 +1,4 @@
-"""Completions of papi_count, papi_record and papi_compare: each option that the program knows, and what can stand behind it."""
+"""Completions of papi_count, papi_record, papi_compare and papi_plan: each option that the program knows, and what can stand behind it."""
 
 from __future__ import annotations
 
@@ -9,18 +9,25 @@ import subprocess
 from pathlib import Path
 
 from parts.compare.words import compare_words
+from parts.planning.words import plan_words
 from parts.recording_words import count_words, record_words
 from parts.valgrind import cache_folder
 from tests.shells import Shell
 from tests.support import ROOT, InFolder, needs_command
 from tests.whole import needs_papi
 
-WORDS = {"count": count_words, "record": record_words, "compare": compare_words}
+WORDS = {
+    "count": count_words,
+    "record": record_words,
+    "compare": compare_words,
+    "plan": plan_words,
+}
 FILES = 3  # the status of candidates for names of files
 OF_FILES = {
     "count": "--library --unit --presets --callgrind --page -o --json --csv --keep",
     "record": "-o --unit",
     "compare": "",
+    "plan": "--unit --presets",
 }
 UNIT = str(ROOT / "examples/lab.unit")
 
@@ -70,7 +77,8 @@ class Programs(InFolder):
             for each in actions(tool):
                 name = each.option_strings[-1]
                 if each.nargs == 0:
-                    self.assertEqual(self.candidates(tool, name, ""), (FILES, []), name)
+                    behind = (0 if tool == "plan" else FILES, [])  # events of no unit, or files
+                    self.assertEqual(self.candidates(tool, name, ""), behind, name)
                 elif each.choices:
                     self.assertEqual(self.candidates(tool, name, ""), (0, list(each.choices)), name)
                 elif name in OF_FILES[tool].split():
@@ -97,6 +105,9 @@ class Programs(InFolder):
             self.assertIn(f"PAPI_TOT_INS,{event}", found)
         status, found = self.candidates("count", "--unit", UNIT, "--events", "")
         self.assertIn("lab::MEM:LOADS", found)
+        self.assertEqual(self.candidates("plan", "--unit", UNIT, "lab::CYCLES", ""), (0, found))
+        listed = [f"CYCLES,{event}" for event in found]
+        self.assertEqual(self.candidates("plan", "--unit", UNIT, "CYCLES,"), (0, listed))
         presets = str(ROOT / "examples/recorded.presets")
         found_ones = self.candidates("count", "--presets", presets, "--cpu", "")
         self.assertEqual(found_ones, (0, ["recorded"]))
