@@ -2,6 +2,7 @@
 
 from __future__ import annotations
 
+import re
 import unittest
 from xml.etree import ElementTree
 
@@ -95,3 +96,11 @@ class Picture(unittest.TestCase):
         folder = ROOT / "examples/profile"
         title = "Cache misses of product.c, one overflow every 256"
         self.assertEqual(self.draw((folder / "product.profile").read_text(), "--title", title), (folder / "product.svg").read_text())
+
+    def test_the_pictures_of_the_kernels(self) -> None:
+        folder = ROOT / "examples/c"
+        titles = re.findall(r"^draw (\w+) \w+ '(.*)'$", (folder / "pictures").read_text(), re.MULTILINE)
+        self.assertEqual([name for name, _ in titles], ["daxpy", "stencil", "hash_join", "sort"])
+        for name, title in titles:
+            drawn = self.draw((folder / f"{name}.profile").read_text(), "--title", title)
+            self.assertEqual(drawn, (folder / f"{name}.svg").read_text(), name)
