@@ -30,6 +30,8 @@ class Page(HTMLParser):
         self.sections: list[str] = []
         self.text: dict[str, str] = {}  # by section
         self.files = re.findall(r"<b>([^<]*)</b> <code>([^<]*)</code>", text.partition("</header>")[0])
+        tile = r'<div class="tile[^"]*"><strong>([^<]*)</strong><span>(?:<code>)?([^<]*)'
+        self.tiles = re.findall(tile, text.partition("</header>")[0])
         self._open: list[str] = []
         self._line = 0
         faults = faults_of(text)
@@ -129,6 +131,16 @@ class Pages(InFolder):
         self.assertIn("estimate off by", page.text["totals"])
         self.assertIn("group 1: turns of 100 ticks", page.text["counters"])
         self.assertIn("by_columns", page.text["profile"])
+        self.assertEqual(page.tiles[:2], [self.counted("c0"), self.counted("51")])
+        self.assertEqual([name for _, name in page.tiles[5:7]], ["calls", "refused"])
+
+    def counted(self, code: str) -> tuple[str, str]:
+        """What both threads counted of the lines of this code, and its event."""
+        lines = (EXAMPLES / "page/product.stream").read_text(encoding="ascii").splitlines()
+        found = [line.split() for line in lines if line[:1].isdigit()]
+        amounts = [int(words[4]) for words in found if words[1] == code and words[3] == "u"]
+        event = {"c0": "core::INSTRUCTIONS", "51": "core::L1D_MISS:ALL"}[code]
+        return f"{2 * sum(amounts):,}", event
 
     def test_hostile_texts_show_as_texts(self) -> None:
         hostile = "<script>alert(1)</script>"

@@ -26,7 +26,8 @@ from parts.report.replies import Note, read_replies
 from parts.report.script_table import draw_script
 from parts.report.sets import Group
 from parts.report.story import Passing, Reading, Setup, Span, Story
-from parts.report.summary import Total, Window, draw_tiles, draw_totals, totals_of
+from parts.report.summary import Total, Window, draw_totals, totals_of
+from parts.report.tiles import draw_tiles
 from parts.report.timeline import Timing, draw_timelines
 from parts.report.times import Time, times_of
 from parts.report.turns import Clock, Turn, clock_of
@@ -66,15 +67,47 @@ class Parts(unittest.TestCase):
     def test_the_top_of_the_page(self) -> None:
         steps, _ = read_replies(calls_of(["0 create", "0 add 0 X", "1 register"]), ["1 0 create PAPI_OK 0", "2 0 add PAPI_ENOEVNT", "3 1 register PAPI_OK"])
         sections = [Section("one", "First", "About it.", [making.Markup("<p>x</p>")]), Section("none", "Second", "", [])]
-        page = make_page("T", [("unit", "u"), ("stream 0", "s")], draw_tiles(steps, self.STORY, 5), self.STORY, sections)
+        page = make_page("T", [("unit", "u"), ("stream 0", "s")], draw_tiles(steps, self.STORY, 5, []), self.STORY, sections)
         header = page.partition("<header>")[2].partition("</header>")[0]
         self.assertEqual(text_of([header]), "Kistalub report T unit u stream 0 s 3 calls 1 refused 2 threads 2 event sets 1,234 occurrences 5 thresholds passed")
-        self.assertEqual((header.count('"tile bad"'), draw_tiles(steps[:1], self.STORY, 0).count("bad")), (1, 0))
+        self.assertEqual((header.count('"tile bad"'), draw_tiles(steps[:1], self.STORY, 0, []).count("bad")), (1, 0))
         self.assertEqual((re.findall(r'<a href="#(\w+)">([^<]*)</a>', page), re.findall(r'<section id="(\w+)" class="card"', page)), ([("one", "First")], ["one"]))
         self.assertEqual(re.findall(r"<button [^>]*>([^<]*)</button>", page), ["all", "thread 0", "set 0", "thread 1", "set 2"])
         picked = re.findall(r'<button [^>]*data-(all|pick-set|pick-thread)="([^"]*)"', page)
         self.assertEqual(picked, [("all", ""), ("pick-thread", "0"), ("pick-set", "0.0"), ("pick-thread", "1"), ("pick-set", "1.2")])
         self.assertEqual(faults_of(page), [])
+
+    def tiles(self, *totals: Total) -> list[str]:
+        """The texts of the tiles that stand before the bookkeeping."""
+        made = draw_tiles([], self.STORY, 5, totals)
+        first, found, _ = made.partition('<div class="tiles facts">')
+        self.assertTrue(found)
+        return [text_of([tile]) for tile in first.split('<div class="tile">')[1:]]
+
+    def test_the_first_tiles_are_what_the_program_did(self) -> None:
+        names = ("PAPI_FP_OPS", "PAPI_L1_DCM", "PAPI_TOT_CYC", "PAPI_TOT_INS", "PAPI_BR_INS")
+        span = span_of(*names)
+        values = dict(zip(names, (500, 30, 3000, 2000, 7)))
+        wanted = ["2,000 PAPI_TOT_INS", "3,000 PAPI_TOT_CYC 1.50 per instruction"]
+        wanted += ["30 PAPI_L1_DCM 15.00 per 1,000 instructions"]
+        wanted += ["500 PAPI_FP_OPS 0.25 per instruction"]
+        totals = [Total(span, name, WINDOW, values[name]) for name in names]
+        self.assertEqual(self.tiles(*totals), wanted)
+        self.assertEqual(self.tiles(totals[0]), ["500 PAPI_FP_OPS"])
+        self.assertEqual(self.tiles(totals[4]), [])
+
+    def test_a_tile_counts_each_occurrence_of_a_thread_once(self) -> None:
+        """Three stretches, of which the second lies in the first; another thread; an estimate."""
+        stretches = ((0, 0, 9, 100), (0, 4, 9, 40), (0, 9, 12, 7), (1, 0, 9, 1000))
+        totals = [
+            Total(span_of("a::INSTRUCTIONS", thread=thread), "a::INSTRUCTIONS",
+                  Window("s", start, end, 1), value)
+            for thread, start, end, value in stretches
+        ]  # fmt: skip
+        self.assertEqual(self.tiles(*totals), ["1,107 a::INSTRUCTIONS"])
+        turns = span_of("X_MISS", slice_=2, thread=2)
+        self.assertEqual(self.tiles(Total(turns, "X_MISS", WINDOW, 50)), ["50 X_MISS estimate"])
+        self.assertEqual(self.tiles(Total(turns, "X_MISS", WINDOW, 50, 48)), ["48 X_MISS"])
 
     def test_each_thread_has_its_line(self) -> None:
         made = draw_timelines(self.STORY, {0: "s"}, lambda span: None, {0: Time("cycles", lambda position: 2 * position), 1: Time()})
@@ -142,7 +175,7 @@ class Parts(unittest.TestCase):
         timing = Timing([Group(("X",)), Group(("Y",))], [Turn(0, 0, 4), Turn(1, 4, 9)], 2)
         drawn = [draw_totals(totals), draw_ratios(totals), draw_timelines(story, {}, lambda _: timing, {0: Time()}), draw_curves(span, Time()),
                  draw_regions([Region("outer", 0, "a", 1, (5, 9), [Region("inner", 0, "b", 1, (2, 1))])], ("X", "Y")), draw_script(self.STEPS, {}, {"add": "..."})]
-        page = make_page("T", [("unit", "u")], draw_tiles(self.STEPS, story, 0), story, [Section(f"s{number}", "S", "", body) for number, body in enumerate(drawn)])
+        page = make_page("T", [("unit", "u")], draw_tiles(self.STEPS, story, 0, totals), story, [Section(f"s{number}", "S", "", body) for number, body in enumerate(drawn)])
         self.assertEqual((faults_of(page), page.count("<svg")), ([], 3))
 
 

@@ -23,7 +23,8 @@ from parts.report.replies import Step, read_replies
 from parts.report.script_table import draw_script
 from parts.report.sets import Group, Pictures, groups_of
 from parts.report.story import Setup, Span, Story, tell_story
-from parts.report.summary import draw_tiles, draw_totals, totals_of
+from parts.report.summary import Total, draw_totals, totals_of
+from parts.report.tiles import draw_tiles
 from parts.report.timeline import MOST_TURNS, Timing, draw_timelines
 from parts.report.times import Time, times_of
 from parts.report.turns import Clock, clock_of, turns_of
@@ -80,11 +81,12 @@ class Report:
         named += [("map", asked.place.map), ("program", asked.place.program), ("regions", asked.regions)]
         files = [(kind, name) for kind, name in named if name is not None]
         title = asked.title if asked.title is not None else asked.script.rpartition("/")[2]
-        return make_page(title, files, draw_tiles(self.steps, self.story, len(self.notes)), self.story, self.sections())
-
-    def sections(self) -> list[Section]:
-        streams = dict(enumerate(self.asked.streams))
+        streams = dict(enumerate(asked.streams))
         totals = totals_of(self.story, streams, self.without_turns)
+        tiles = draw_tiles(self.steps, self.story, len(self.notes), totals)
+        return make_page(title, files, tiles, self.story, self.sections(streams, totals))
+
+    def sections(self, streams: dict[int, str], totals: list[Total]) -> list[Section]:
         return [
             Section("errors", "What the tools said", "", [element("pre", "\n".join(self.said), class_="notice")] if self.said else []),
             Section("totals", "Totals", self._about_totals(), [*draw_totals(totals), *draw_ratios(totals)]),

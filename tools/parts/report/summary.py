@@ -8,7 +8,6 @@ from typing import Sequence
 from parts.command import counted
 from parts.report.markup import Markup, element
 from parts.report.numbers import shown
-from parts.report.replies import Step
 from parts.report.story import Span, Story
 
 TONES = 8
@@ -68,20 +67,6 @@ def _with_exact(span: Span, other: Span, streams: dict[int, str]) -> list[Total]
     window = Window(streams.get(span.thread, ""), span.counted_from, last.position, span.setup.domain)
     exact: Sequence[int | None] = other.last.values if span.setup.slice and other.last is not None else (None,) * len(last.values)
     return [Total(span, event, window, value, of_event) for event, value, of_event in zip(span.setup.events, last.values, exact)]
-
-
-def draw_tiles(steps: Sequence[Step], story: Story, notes: int) -> Markup:
-    refused = sum(step.is_refused for step in steps)
-    tiles = [
-        ("calls", len(steps), ""),
-        ("refused", refused, "bad" if refused else ""),
-        ("threads", len(story.positions), ""),
-        ("event sets", len(story.setups), ""),
-        ("occurrences", sum(story.positions.values()), ""),
-        ("thresholds passed", notes, ""),
-    ]
-    return element("div", [element("div", element("strong", shown(number)), element("span", name), class_=f"tile {tone}".strip()) for name, number, tone in tiles],
-                   class_="tiles")
 
 
 def draw_totals(totals: Sequence[Total]) -> list[Markup]:
