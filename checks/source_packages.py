@@ -1,5 +1,5 @@
-"""Sources of Debian's packages, outside the repository: `papi_users` builds them. What a folder does
-not have is got by apt-get, by lists of its own, so that nothing of the system changes."""
+"""Sources of Debian's packages, outside the repository: `papi_users` builds them. What a folder
+does not have is got by apt-get, by lists of its own, so that nothing of the system changes."""
 
 from __future__ import annotations
 

@@ -60,11 +60,12 @@ def threshold_fault(call: Call, tables: Tables) -> str:
     event = _event_of(tables, call.arguments[1])
     entry = tables.presets.entries.get(call.arguments[1]) if tables.presets is not None else None
     threshold = int(call.arguments[2])
-    widths = tables.unit.widths.get(event.component_number) if tables.unit is not None and event is not None else None
+    widths = tables.unit.widths.get(event.component_number) if tables.unit and event else None
     last = (1 << min(widths)) - 1 if widths else None
     if threshold and (threshold < LEAST_THRESHOLD or last is not None and threshold > last):
-        most = f"{last:,}, the last value of the component's narrowest register" if last is not None else "the last value of a register"
-        return f"the threshold is neither 0 nor from {LEAST_THRESHOLD} to {most}"
+        most = "the last value of the component's narrowest register"
+        told = most if last is None else f"{last:,}, {most}"
+        return f"the threshold is neither 0 nor from {LEAST_THRESHOLD} to {told}"
     if entry is not None and entry.kind != "NOT_DERIVED":
         return "the event is derived"
     return ""
@@ -76,7 +77,9 @@ def _of_overflow(call: Call, own: Kept, tables: Tables) -> str:
     name, plain = call.arguments[1].upper(), parts_of(call.arguments[1])[2].upper()
     if not any(plain == parts_of(other)[2] for other in own.names):
         return "the event is not in the set"
-    return "another event's threshold is on the same native event" if name in own.names and call.arguments[2] != "0" else ""
+    if name not in own.names or call.arguments[2] == "0":
+        return ""
+    return "another event's threshold is on the same native event"
 
 
 def _of_add(call: Call, own: Kept, tables: Tables) -> str:
@@ -84,7 +87,8 @@ def _of_add(call: Call, own: Kept, tables: Tables) -> str:
         return "the set has it"
     events = [_event_of(tables, name) for name in (*own.names, call.arguments[1])]
     numbers = {event.component_number for event in events if event is not None}
-    return "the set has events of another component" if None not in events and len(numbers) > 1 else ""
+    is_known = None not in events and len(numbers) > 1
+    return "the set has events of another component" if is_known else ""
 
 
 def _of_raw(call: Call, own: Kept, tables: Tables) -> str:
@@ -97,7 +101,11 @@ def _of_raw(call: Call, own: Kept, tables: Tables) -> str:
     return f"the component has {counters} counters, from 0 on"
 
 
-OF_CALLS: dict[str, Callable[[Call, Kept, Tables], str]] = {"overflow": _of_overflow, "add": _of_add, "raw": _of_raw}
+OF_CALLS: dict[str, Callable[[Call, Kept, Tables], str]] = {
+    "overflow": _of_overflow,
+    "add": _of_add,
+    "raw": _of_raw,
+}
 CODE = "PAPI_EINVAL"
 
 
