@@ -20,6 +20,8 @@ Bool has_library;
 
 #define OPERANDS_OF_REP 2
 #define LINE_BITS 6
+#define SIZE_OF_NEAR 6        /* of a conditional branch with a displacement of four bytes */
+#define OPCODES_OF_LOOPS 0xE0 /* and of jrcxz */
 
 static UInt kind_of_class(const code *c) { return c->class & CLASS_BITS; }
 static Bool is_conditional(const code *c) { return c->is_counted && kind_of_class(c) == CONDITIONAL; }
@@ -142,11 +144,22 @@ static void branch_leaves(code *c, IRExpr *guard, Bool leaves_taken) {
     c->line = c->number + 1;
 }
 
+/* Whether a branch that goes to the instruction behind it, taken or not, is taken where VEX leaves the block for it: so it is but for conditions with an odd code, since VEX
+ * asks for their opposites. */
+static Bool goes_on_taken(const code *c) {
+    const UChar *end = (const UChar *)(c->pc + c->size), *displacement = end - (c->size >= SIZE_OF_NEAR ? 4 : 1);
+    for (const UChar *byte = displacement; byte < end; byte++)
+        if (*byte) return False;
+    UChar opcode = displacement[-1];
+    return (opcode & 0xF0) == OPCODES_OF_LOOPS || !(opcode & 1);
+}
+
 static void leave(code *c, IRStmt *exit) {
     IRExpr *guard = exit->Ist.Exit.guard;
     Addr to = exit->Ist.Exit.dst->Ico.U64;
     Bool leaves_taken = to != c->pc + c->size;
     Bool is_branch_now = is_conditional(c) && !c->is_branch_seen && exit->Ist.Exit.jk == Ijk_Boring;
+    if (is_branch_now && !leaves_taken) leaves_taken = goes_on_taken(c);
     if (is_branch_now) branch_leaves(c, guard, leaves_taken);
     else if (c->is_counted) {
         if (c->class & REPEATS && !leaves_taken) {
