@@ -28,6 +28,7 @@ class Process:
     profile: CodeProfile = field(default_factory=CodeProfile)
     has_ended: bool = False  # else nothing is known of its last program
     is_refused: bool = False  # it called the library, which the run could not serve
+    undetermined: int | None = None  # the first call of the system that left the order open
 
     def total(self) -> Counter[str]:
         return sum(self.threads.values(), Counter[str]())
@@ -43,6 +44,7 @@ class _Program:
     called: Counter[int] = field(default_factory=Counter)
     profile: ProfileReader = field(default_factory=ProfileReader)
     ended: str = ""
+    undetermined: int | None = None
 
 
 def read_processes(folder: Path) -> list[Process]:
@@ -70,6 +72,8 @@ def _read(path: Path) -> Process:
         process.called += program.called
         process.profile.add(program.profile.profile)
         process.has_ended = program.ended == "ended"
+        if process.undetermined is None:
+            process.undetermined = program.undetermined
         for number, counts in program.threads.items():
             process.threads[number] = process.threads.get(number, Counter()) + counts
     process.threads = {number: process.threads[number] for number in sorted(process.threads)}
@@ -87,6 +91,8 @@ def _take(process: Process, program: _Program, word: str, rest: str) -> None:
         program.calls = int(rest)
     elif word == "children":
         process.children = int(rest)
+    elif word == "undetermined":
+        program.undetermined = int(rest)
     elif word == "refused":
         process.is_refused = True
     elif word == "stays":  # what was told before tells what it did up to there

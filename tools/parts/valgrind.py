@@ -20,6 +20,7 @@ PRELOAD = "vgpreload_core-amd64-linux.so"
 NAME = "kistalub"
 HINT = "(apt-get install valgrind)"
 
+MOST_THREADS = 2500  # at one time, and one more than there may be
 STACK_ROOM = 1 << 16
 FOLDER_ROOM = 1 << 10
 POINTER = 8
@@ -82,7 +83,7 @@ def _own_folder() -> Path:
 
 def command(words: list[str], program: str, arguments: list[str]) -> list[str]:
     """What starts a program under the tool, with the tool's own words. Threads run one after the other: one that waits for another lets each run before it goes on."""
-    return [str(tool()), f"--tool={NAME}", "--quiet", "--vgdb=no", "--fair-sched=try", "--sigill-diagnostics=no", *words, "--", program, *arguments]
+    return [str(tool()), f"--tool={NAME}", "--quiet", "--vgdb=no", "--fair-sched=try", f"--max-threads={MOST_THREADS}", "--sigill-diagnostics=no", *words, "--", program, *arguments]
 
 
 def of_one_length(folder: str) -> str:

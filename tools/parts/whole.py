@@ -14,6 +14,7 @@ from formats.texts import plain
 from parts.command import Fault, tell
 from parts.callgrind_file import callgrind_text
 from parts.code_profile import CodeProfile
+from parts.call_names import call_name
 from parts.codes import codes_of
 from parts.count_files import as_csv, as_json
 from parts.count_table import table
@@ -183,6 +184,7 @@ def tell_counts(
         program, processes[0] if processes and processes[0].way == (1,) else None, run.status
     )
     if any(process.calls for process in processes) and not whole.is_beside:
+        _tell_order(processes)
         if whole.is_asked():
             raise Fault(
                 f"{program} makes calls of PAPI, which have had its counts: --whole counts it as a "
@@ -190,6 +192,7 @@ def tell_counts(
             )
         return
     shown_ones = processes if whole.children else processes[:1]
+    _tell_order(shown_ones)
     never = _never_called(whole, shown_ones)
     if processes and never and len(never) == len(whole.functions):
         raise Fault(f"{program} never called {', '.join(never)}: nothing was counted")
@@ -212,6 +215,17 @@ def tell_counts(
         raise Fault(f"{program} never called {', '.join(never)}")
     if missing:
         raise Fault(missing)
+
+
+def _tell_order(processes: Sequence[Process]) -> None:
+    """A line, if another run may have another order of threads."""
+    for process in processes:
+        if process.undetermined is not None:
+            tell(
+                f"the order of the threads of {plain(process.program)} was not determined: "
+                f"{call_name(process.undetermined)} was answered from outside while others ran"
+            )
+            return
 
 
 def _write(

@@ -484,7 +484,7 @@ class Programs(Counted):
             self.assertEqual(others, [297, 1], words)
 
     def test_time_goes_on(self) -> None:
-        """All threads see one clock, which goes on with the cycles of each and with sleep. A thread's own has only its cycles."""
+        """A clock goes on with the cycles of a thread that is joined, and with sleep. A thread's own has only its cycles."""
         program = self.compile("""
             #include <pthread.h>
             #include <time.h>

@@ -192,9 +192,3 @@ ULong cycles_of(const core *c) {
     core_sums(c, all);
     return all[KL_CYCLES];
 }
-
-ULong all_cycles(void) {
-    ULong all[ALL_KINDS];
-    all_counts(all);
-    return all[KL_CYCLES];
-}

@@ -87,8 +87,7 @@ void kinds_add_up(ULong all[ALL_KINDS]);
 
 void all_counts(ULong all[ALL_KINDS]);
 
-/* The cycles of a core, and of all threads, whether they counted or not. */
+/* The cycles of a core, whether it counted or not. */
 ULong cycles_of(const core *c);
-ULong all_cycles(void);
 
 #endif

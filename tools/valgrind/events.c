@@ -10,6 +10,8 @@
 #include "pub_tool_vkiscnums.h"
 
 #include "block.h"
+#include "calls.h"
+#include "clocks.h"
 #include "code.h"
 #include "core.h"
 #include "decode.h"
@@ -17,10 +19,10 @@
 #include "output.h"
 #include "profile.h"
 #include "requests.h"
-#include "sleep.h"
 #include "tape.h"
 #include "thresholds.h"
 #include "totals.h"
+#include "turns.h"
 #include "words.h"
 
 /* What the system tells a program beside its stack (elf.h). */
@@ -85,17 +87,21 @@ static void print_totals(const core *c) {
 }
 
 void thread_begins(ThreadId parent, ThreadId tid) {
-    (void)parent;
     if (tid > 1 && words.threads == ONE_THREAD && counting_has_begun()) {
         report("thread");
         VG_(exit)(1);
     }
     core_thread_begins(tid);
+    turns_thread_begins(parent, tid);
+    clocks_thread_begins(parent, tid);
+    calls_thread_begins(tid);
 }
 
 void thread_ends(ThreadId tid) {
     if (words.shows_totals && core_of(tid)) print_totals(core_of(tid));
     totals_of_thread(tid);
+    calls_thread_ends(tid);
+    turns_thread_ends(tid);
     core_thread_ends(tid);
 }
 
@@ -108,8 +114,8 @@ static void child_is_made(ThreadId tid) {
 
 /* A child counts on by itself, but what its parent writes is not its own. */
 static void child_begins(ThreadId tid) {
-    (void)tid;
     outputs_close();
+    calls_of_child(tid);
     totals_of_child();
     if (words.stream >= 0 || words.streams) counting_ends();
 }
@@ -134,7 +140,8 @@ static void tell_exec(Addr path) {
 /* If another program takes the place of this one, nothing more is known of it. */
 void system_call_begins(ThreadId tid, UInt number, UWord *arguments, UInt count) {
     (void)count;
-    sleep_begins(tid, number, arguments);
+    clocks_call_begins(tid, number, arguments);
+    calls_begins(tid, number, arguments);
     if (!is_exec(number)) return;
     core *c = core_of(tid);
     if (c && c->tape) tape_flushes(c);
@@ -144,7 +151,8 @@ void system_call_begins(ThreadId tid, UInt number, UWord *arguments, UInt count)
 
 void system_call_ended(ThreadId tid, UInt number, UWord *arguments, UInt count, SysRes result) {
     (void)count;
-    sleep_ended(tid, number, arguments, result);
+    clocks_call_ended(tid, number, arguments, result);
+    calls_ended(tid, number, arguments, result);
     if (!is_exec(number)) return;
     totals_stay();
     report("exec");

@@ -231,11 +231,6 @@ static void keep_shares(code *c) {
     VG_(memcpy)(c->of->shares, c->shares, c->shares_count * sizeof *c->shares);
 }
 
-/* A thread that waits for another one lets it run: under Valgrind one runs at a time, so its turn is over. */
-static void ends_turn(code *c) {
-    addStmtToIRSB(c->out, IRStmt_Put(__builtin_offsetof(VexGuestAMD64State, host_EvC_COUNTER), IRExpr_Const(IRConst_U32(0))));
-}
-
 static void block_ends(code *c, const IRSB *in) {
     Bool is_known = in->next->tag == Iex_Const;
     Addr next = is_known ? (Addr)in->next->Iex.Const.con->Ico.U64 : 0;
@@ -245,7 +240,6 @@ static void block_ends(code *c, const IRSB *in) {
     code_flushes(c);
     code_leaves_functions(c, in);
     code_checks_beginning(c);
-    if (in->jumpkind == Ijk_Yield) ends_turn(c);
     keep_shares(c);
 }
 

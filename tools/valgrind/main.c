@@ -15,6 +15,7 @@
 #include "requests.h"
 #include "slots.h"
 #include "totals.h"
+#include "turns.h"
 #include "words.h"
 
 /* A word of Valgrind's core. */
@@ -44,6 +45,7 @@ static void begin_words(void) {
     VG_(track_pre_thread_ll_create)(thread_begins);
     VG_(track_pre_thread_ll_exit)(thread_ends);
     VG_(track_start_client_code)(program_goes_on);
+    VG_(track_stop_client_code)(turns_code_stops);
     VG_(track_pre_deliver_signal)(signal_comes);
     VG_(clo_show_below_main) = True; /* the names of functions are their own */
     VG_(clo_vex_control).guest_chase = False;    /* else a block may be run before it is known to be reached */

@@ -4,9 +4,9 @@
 #include "pub_tool_transtab.h"
 #include "valgrind.h"
 
+#include "clocks.h"
 #include "code.h"
 #include "core.h"
-#include "sleep.h"
 #include "tape.h"
 #include "thresholds.h"
 #include "totals.h"
@@ -67,8 +67,8 @@ static UWord give_passed(const core *c, kl_passed *to) {
     return 1;
 }
 
-static UWord give_time(const core *c, ULong *to) {
-    to[0] = all_cycles() + slept_cycles();
+static UWord give_time(ThreadId tid, const core *c, ULong *to) {
+    to[0] = clock_of(tid);
     to[1] = cycles_of(c);
     return 1;
 }
@@ -87,7 +87,7 @@ Bool answer_request(ThreadId tid, UWord *asked, UWord *answer) {
     case KL_ARM: *answer = threshold_arms(c, asked[1], asked[2]); break;
     case KL_PASSED: *answer = give_passed(c, (kl_passed *)asked[1]); break;
     case KL_SEE: *answer = (UWord)c->counts; break;
-    case KL_TIME: *answer = give_time(c, (ULong *)asked[1]); break;
+    case KL_TIME: *answer = give_time(tid, c, (ULong *)asked[1]); break;
     case KL_TURN: *answer = turn(c, asked[1]); break;
     default: return False;
     }

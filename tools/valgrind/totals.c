@@ -14,6 +14,7 @@
 #include "output.h"
 #include "profile.h"
 #include "requests.h"
+#include "turns.h"
 #include "words.h"
 
 #define LONGEST_LINE 4096
@@ -165,6 +166,7 @@ static void put_all(void) {
     for (UInt i = 0; i < functions_names(); i++)
         put_line("function %u %llu", i, functions_calls(i));
     put_line("calls %llu\nchildren %u", calls_made(), children);
+    if (undetermined_by() >= 0) put_line("undetermined %d", undetermined_by());
     put_profile();
 }
 
