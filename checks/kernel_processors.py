@@ -3,7 +3,7 @@
 from __future__ import annotations
 
 from pathlib import Path
-from typing import Callable
+from typing import Callable, Sequence
 
 from kernel_events import Judged, judge_events, make_unit
 from kernel_files import ELEMENTS, MISSES, NAMES, Kernel
@@ -15,11 +15,12 @@ from parts.processors import Table, tables
 from running import Tally
 
 Counts = dict[str, dict[str, int]]  # of each kernel by a line's code
-Recorder = Callable[[str], Counts]  # of a unit
+MOST_OPTIMISED = 2  # Valgrind's level by itself, and the most
+Recorder = Callable[[str, int], Counts]  # over a unit, at a level of optimisation
 RECORDED = {*NAMES.values(), *MISSES.values(), *ELEMENTS.values()}
 
 
-def judge_lines(unit: str, kernels: list[Kernel], found: Counts, tally: Tally) -> None:
+def judge_lines(title: str, unit: str, kernels: list[Kernel], found: Counts, tally: Tally) -> None:
     """Each line of a recording over the unit, beside the kernel's numbers and its return."""
     lines = [
         (kind, f"{select:02x} {mask:02x}")
@@ -36,7 +37,7 @@ def judge_lines(unit: str, kernels: list[Kernel], found: Counts, tally: Tally) -
             for kind, code in lines
             if kind in wanted and found[kernel.name].get(code, 0) != wanted[kind]
         ]
-        tally.judge(f"recorded over {unit}: {kernel.name}", ", ".join(wrong))
+        tally.judge(f"{title}: {kernel.name}", ", ".join(wrong))
 
 
 def judge_all(title: str, judged: Judged, tally: Tally) -> None:
@@ -55,7 +56,12 @@ def told(judged: Judged, kind: str) -> str:
 
 
 def compare_processors(
-    pmus: list[str], kernels: list[Kernel], folder: Path, recorder: Recorder, tally: Tally
+    pmus: list[str],
+    kernels: list[Kernel],
+    folder: Path,
+    recorder: Recorder,
+    levels: Sequence[int],
+    tally: Tally,
 ) -> None:
     recorded: list[Table] = []  # one unit of each table
     presets = with_others(folder) if PRESETS.exists() else ""
@@ -63,7 +69,9 @@ def compare_processors(
         unit = make_unit(pmu, folder)
         if tables()[pmu] not in recorded:
             recorded.append(tables()[pmu])
-            judge_lines(unit, kernels, recorder(unit), tally)
+            for level in levels:
+                title = f"recorded over {pmu}, optimisation {level}"
+                judge_lines(title, unit, kernels, recorder(unit, level), tally)
         judged = judge_events(pmu, unit, kernels)
         judge_all(pmu, judged, tally)
         print(f"{pmu}: {told(judged, 'event')}", flush=True)
