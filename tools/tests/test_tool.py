@@ -122,7 +122,7 @@ class Machine(Harness):
         self.assertEqual(self.misses("4,4,4096", *((page * 4096, 1) for page in (0, 1, 2, 3, 0, 4, 1, 0))), "mmmm.mm.")
 
     def test_shapes(self) -> None:
-        for shape in ("512,8,48", "48,4,64", "512,0,64", "1024,128,64", "33554432,8,64"):
+        for shape in ("512,8,48", "48,4,64", "512,0,64", "1024,256,64", "33554432,8,64"):
             self.assertEqual(self.misses(shape), "refused\n", shape)
 
     def test_the_predictor(self) -> None:
