@@ -15,6 +15,9 @@ from papi_library import Files, Library, Ran, run
 
 SECONDS = 120
 
+# A unit's component of processors has PAPI's name for a client (docs/C_PROGRAMS.md).
+PROCESSORS = {"cpu": "perf_event"}
+
 # Each program with words that make it short, and that end with status 0.
 PROGRAMS: dict[str, list[str]] = {
     "papi_avail": [],
@@ -133,7 +136,8 @@ class Both:
 
     def component_avail(self) -> str:
         have = re.findall(r"^Name:   (\S+)", self.there("papi_component_avail").out, re.MULTILINE)
-        return difference("components", list(dict.fromkeys(have)), self.components())
+        wanted = [PROCESSORS.get(name, name) for name in self.components()]
+        return difference("components", list(dict.fromkeys(have)), wanted)
 
     def xml_events(self) -> str:
         try:
