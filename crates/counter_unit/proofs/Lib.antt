@@ -1,5 +1,6 @@
 pub mod Periods
 pub mod Places
+pub mod Kept
 pub mod Bits
 pub mod Counts
 pub mod Tables

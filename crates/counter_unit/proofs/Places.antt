@@ -1,28 +1,13 @@
 -- Places of registers, one by one and all together.
-use Rattle.std.proofs.Common.{sym, if◌then◌else◌, min, bit_or, ◌≡◌, ℕ, zero, suc, ◌+◌, ◌-◌, ◌^◌, ◌<◌, ◌≤◌, inl, inr, List, [], ◌∷◌, length, set, get_or, replicate, refl, ap, ◌∙◌, arith, Option, Some, None}
-use Rattle.counter_unit.proofs.Words.{◌==◌, or_zero_r, cases_eq, cond_both, cond-true, cond-false, eq-eqb, ne_eqb, leb-true, leb-false, weight_of-le}
-use Rattle.counter_unit.proofs.Words.{weight_of, AreWidths, length-set, length-replicate, get_or-set_same, get_or-set_other, pow_mono, Occ, Register}
-use Rattle.counter_unit.proofs.Words.{IsThreshold, period, beginning, at_place, FitsWidth, FitWidths, moved, carries, moved_place, all_moved}
+use Rattle.std.proofs.Common.{sym, if◌then◌else◌, min, bit_or, ◌≡◌, ℕ, zero, suc, ◌^◌, ◌<◌, ◌≤◌, inl, inr, List, [], ◌∷◌, length, get_or, replicate, refl, ap, ◌∙◌, arith, Option, None}
+use Rattle.counter_unit.proofs.Words.{◌==◌, or_zero_r, cases_eq, cond-true, cond-false, eq-eqb, ne_eqb}
+use Rattle.counter_unit.proofs.Words.{pow_mono, Occ, Register}
+use Rattle.counter_unit.proofs.Words.{IsThreshold, period, at_place, moved_place, all_moved}
 
 pub at_place-replicate : (n c : ℕ) → at_place (replicate n None) c ≡ None
 at_place-replicate zero c = refl
 at_place-replicate (suc n) zero = refl
 at_place-replicate (suc n) (suc c) = at_place-replicate n c
-
-pub FitWidths-put : (ws : List ℕ) (rs : List (Option Register)) (c : ℕ) (x : Option Register) → c < length ws → FitsWidth (get_or ws c 0) x → FitWidths ws rs → FitWidths ws (set rs c x)
-FitWidths-put ws rs c x below sound h = record {
-  same_length = length-set rs c x ∙ h.same_length;
-  each = λ k lt. elim (cases_eq k c) [
-    | inl same ↦ rw (same, get_or-set_same rs c x None (omega (arith, h.same_length))) sound
-    | inr apart ↦ rw (get_or-set_other rs c k x None apart) (h.each k lt)
-  ];
-}
-
-pub FitWidths-empty : (ws : List ℕ) → FitWidths ws (replicate (length ws) None)
-FitWidths-empty ws = record {
-  same_length = length-replicate (length ws) (let none : Option Register = None in none);
-  each = λ k lt. rw (at_place-replicate (length ws) k) tt;
-}
 
 pub length-all_moved : (before : Option Occ) (o : Occ) (ws : List ℕ) (rs : List (Option Register)) → length rs ≡ length ws → length (all_moved before o ws rs) ≡ length rs
 length-all_moved before o [] [] e = refl
@@ -41,31 +26,12 @@ pub period_fits : (w t : ℕ) → 16 ≤ w → IsThreshold w t → (256 ≤ peri
 period_fits w t low (inl none) = let most : 2 ^ 16 ≤ 2 ^ w = pow_mono low in let e = period_none w t none in (omega arith, omega arith)
 period_fits w t low (inr fits) = let e = period_some w t (omega (arith, fits.0)) in (omega (arith, fits.0), omega (arith, fits.1))
 
--- what is added is less than a period, so a register stays sound
-moved-sound : (w more : ℕ) (r : Register) → 16 ≤ w → more ≤ 255 → FitsWidth w (Some r) → FitsWidth w (Some (moved w more r))
-moved-sound w more r low small h =
-    let p = period_fits w r.threshold low h.0 in
-    let P : ℕ → Type 0 = λ v. IsThreshold w r.threshold × (beginning w r.threshold ≤ v) × (v < 2 ^ w) in
-    cond_both (carries w more r) (beginning w r.threshold + (r.value + more - 2 ^ w)) (r.value + more) P
-    (λ e. let over = leb-true (2 ^ w) (r.value + more) e in (h.0, omega arith, omega (arith, p.0, p.1, h.2)))
-    (λ e. let under = leb-false (2 ^ w) (r.value + more) e in (h.0, omega (arith, h.1), omega arith))
-
-pub moved_place-sound : (before : Option Occ) (o : Occ) (w : ℕ) (r : Option Register) → 16 ≤ w → o.amount ≤ 255 → FitsWidth w r → FitsWidth w (moved_place before o w r).place
-moved_place-sound before o w None low small h = tt
-moved_place-sound before o w (Some r) low small h = moved-sound w (weight_of r.native r.domain before o) r low (weight_of-le r.native r.domain before o small) h
-
 pub at_place-all_moved : (before : Option Occ) (o : Occ) (ws : List ℕ) (rs : List (Option Register)) (c : ℕ) → length rs ≡ length ws → at_place (all_moved before o ws rs) c ≡ (moved_place before o (get_or ws c 0) (at_place rs c)).place
 at_place-all_moved before o [] [] c e = refl
 at_place-all_moved before o [] (r ∷ rs) c e = absurd (omega arith)
 at_place-all_moved before o (w ∷ ws) [] c e = absurd (omega arith)
 at_place-all_moved before o (w ∷ ws) (r ∷ rs) zero e = refl
 at_place-all_moved before o (w ∷ ws) (r ∷ rs) (suc c) e = at_place-all_moved before o ws rs c (omega arith)
-
-pub FitWidths-moved : (before : Option Occ) (o : Occ) (ws : List ℕ) (rs : List (Option Register)) → AreWidths ws → o.amount ≤ 255 → FitWidths ws rs → FitWidths ws (all_moved before o ws rs)
-FitWidths-moved before o ws rs widths small h = record {
-  same_length = length-all_moved before o ws rs h.same_length ∙ h.same_length;
-  each = λ c lt. rw (at_place-all_moved before o ws rs c h.same_length) (moved_place-sound before o (get_or ws c 0) (at_place rs c) (widths.low c lt) small (h.each c lt));
-}
 
 -- these bits with the first one, which is there if they are none
 pub first_added : (bits counters first : ℕ) → first ≡ (if bits == 0 then min counters 1 else 0) → bit_or bits first ≡ (if bits == 0 then min counters 1 else bits)

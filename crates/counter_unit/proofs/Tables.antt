@@ -1,11 +1,11 @@
 -- The counters that occurrences with each code can move, as the registers change.
-use Rattle.counter_unit.proofs.Words.{◌≡◌, ℕ, ◌<◌, inl, inr, List, length, set, get_or, replicate, refl, ap, sym, ◌∙◌, arith, Option, Some, None, ◌%◌}
+use Rattle.counter_unit.proofs.Words.{◌≡◌, ℕ, ◌<◌, inl, inr, List, length, set, get_or, replicate, ap, sym, ◌∙◌, arith, Option, Some, None, ◌%◌}
 use Rattle.counter_unit.proofs.Words.{bit_at, and_left, cases_eq, ne_eqb, length-replicate, get_or-replicate, get_or-set_same, get_or-set_other}
-use Rattle.counter_unit.proofs.Words.{bit_at-zero, Occ, Register, Key, Selects, all_moved, at_place, moved_place, is_modified, AreMarked, AreSelects}
+use Rattle.counter_unit.proofs.Words.{bit_at-zero, Register, Key, at_place, is_modified, AreMarked}
 use Rattle.counter_unit.proofs.Words.{IsMarkedAt, IsRemarked, bit_of, has}
 use Rattle.std.specs.Prelude.{◌==◌, false}
 use Rattle.counter_unit.specs.declared.selects.Key.TheVariants as key
-use Rattle.counter_unit.proofs.Places.{at_place-all_moved, at_place-replicate}
+use Rattle.counter_unit.proofs.Places.{at_place-replicate}
 
 pub no_bit : (n : ℕ) → n ≡ 1 → n ≡ 0 → ⊥
 no_bit n one none = absurd (omega arith)
@@ -65,26 +65,6 @@ AreMarked-at k old mid new rs c was is before place exists stood none_was none_i
           ∙ ap bit_of (ap (has k code) stood ∙ none_was code small neither ∙ sym (none_is code small other))
     ]
   ]
-
--- a register that moves keeps its codes
-pub AreSelects-moved : (before : Option Occ) (o : Occ) (selects : Selects) (ws : List ℕ) (rs : List (Option Register)) → length rs ≡ length ws → AreSelects selects rs → AreSelects selects (all_moved before o ws rs)
-AreSelects-moved before o selects ws rs e h = record { user = marked key.User selects.user h.user; kernel = marked key.Kernel selects.kernel h.kernel; umasks = marked key.Umask selects.umasks h.umasks; comps = marked key.Comp selects.comps h.comps; modified = λ c below. h.modified c below ∙ sym (ap bit_of (ap is_modified (at_place-all_moved before o ws rs c e) ∙ stays (get_or ws c 0) (at_place rs c))) } where
-  moves : (k : Key) (code w : ℕ) (place : Option Register) → has k code (moved_place before o w place).place ≡ has k code place
-  moves k code w None = refl
-  moves key.User code w (Some r) = refl
-  moves key.Kernel code w (Some r) = refl
-  moves key.Umask code w (Some r) = refl
-  moves key.Comp code w (Some r) = refl
-
-  stays : (w : ℕ) (place : Option Register) → is_modified (moved_place before o w place).place ≡ is_modified place
-  stays w None = refl
-  stays w (Some r) = refl
-
-  marked : (k : Key) (masks : List ℕ) → AreMarked k masks rs → AreMarked k masks (all_moved before o ws rs)
-  marked k masks m = record {
-    codes = m.codes;
-    each = λ code c small below. m.each code c small below ∙ sym (ap bit_of (ap (has k code) (at_place-all_moved before o ws rs c e) ∙ moves k code (get_or ws c 0) (at_place rs c)));
-  }
 
 -- the table while the codes below this one are done
 pub record Marking (k : Key) (c : ℕ) (place : Option Register) (old now : List ℕ) (done : ℕ) : Type 0 where

@@ -1,5 +1,6 @@
 -- The words that the proofs of this crate share, passed on from one place. Declares nothing.
-pub use Rattle.counter_unit.specs.Counting.{After, FitWidths, FitsWidth, IsThreshold, UnitView, all_carries, all_moved, at_place, beginning, begun}
+pub use Rattle.counter_unit.specs.Counting.{After, FitWidths, FitsWidth, IsThreshold, UnitView, all_begun_again, all_carries, all_moved, at_place}
+pub use Rattle.counter_unit.specs.Counting.{beginning, begun, begun_again, count_on}
 pub use Rattle.counter_unit.specs.Counting.{bits_of, carries, moved, moved_place, period, register_at, whole, wrapped}
 pub use Rattle.counter_unit.specs.Laws.{Added}
 pub use Rattle.counter_unit.specs.Modes.{added, is_modified, weight_at}
@@ -24,11 +25,11 @@ pub use Rattle.std.proofs.Math.Seq.{take-set-lt}
 pub use Rattle.std.proofs.lemmas.Bool.{and_left, cases_eq, cases_lt, cond-false, cond-true, cond_both, eq-eqb, le-leb, le-ltb, leb-false, leb-true}
 pub use Rattle.std.proofs.lemmas.Bool.{lt-leb, lt-ltb, ne_eqb}
 pub use Rattle.std.proofs.lemmas.List.{ext_get_or, get_or-replicate, get_or-set_other, get_or-set_same, get_or-take, get_or_past, length-replicate}
-pub use Rattle.std.proofs.lemmas.List.{length-set, take-replicate}
+pub use Rattle.std.proofs.lemmas.List.{length-set, length-take-le, set-get_or, take-replicate}
 pub use Rattle.std.proofs.lemmas.Nat.{and_le_l, div-add-mod', div-mul-add, mod-mul-add, mod_below, one_shl}
 pub use Rattle.std.proofs.lemmas.Nat.Bits.{bit_at-lt, bit_at-suc, bit_at-trailing_zeros, bit_at-zero, bit_at_above, bit_at_and, bit_at_clear_other}
 pub use Rattle.std.proofs.lemmas.Nat.Bits.{bit_at_clear_same, bit_at_lowest, bit_at_set_other, bit_at_set_same, same_from_bits}
 pub use Rattle.std.specs.Int.{bit_at, bit_not, trailing_zeros, w32}
 pub use Rattle.std.specs.Int.Bits.{or_zero_r}
-pub use Rattle.std.specs.Option.{option_copied}
+pub use Rattle.std.specs.Option.{option_copied, option_map, option_map_or}
 pub use Rattle.std.specs.Prelude.{if◌then◌else◌, min, nat_le, not, ◌&&◌, ◌==◌, ◌||◌}

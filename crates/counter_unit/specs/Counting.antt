@@ -1,7 +1,7 @@
 -- Registers, what is added to them, and when they carry.
 use Rattle.std.specs.Prelude.{ℕ, ◌+◌, ◌-◌, ◌*◌, ◌/◌, ◌%◌, ◌^◌, ◌≡◌, ◌<◌, ◌≤◌, ◌⊎◌, Bool, false, if◌then◌else◌, ◌==◌, nat_le}
 use Rattle.std.specs.Prelude.{List, [], ◌∷◌, length, slice_index, slice_index_or, Option, Some, None}
-use Rattle.std.specs.Option.{option_map_or}
+use Rattle.std.specs.Option.{option_map, option_map_or}
 use Rattle.papi_base.specs.declared.occurrence.Occ.{Occ}
 use Rattle.papi_base.specs.declared.native.Native.{Native}
 use Rattle.papi_base.specs.declared.bits.Domain.{Domain}
@@ -81,6 +81,12 @@ abbrev pub all_carries : Option Occ → Occ → List ℕ → List (Option Regist
 all_carries before o [] registers = []
 all_carries before o (w ∷ ws) [] = []
 all_carries before o (w ∷ ws) (r ∷ rs) = (moved_place before o w r).carried ∷ all_carries before o ws rs
+
+-- all registers once more at their beginnings
+abbrev pub all_begun_again : List ℕ → List (Option Register) → List (Option Register)
+all_begun_again [] registers = []
+all_begun_again (w ∷ ws) [] = []
+all_begun_again (w ∷ ws) (r ∷ rs) = option_map (begun_again w) r ∷ all_begun_again ws rs
 
 -- the truths of a list as the bits of a number, the first one lowest
 abbrev pub bits_of : List Bool → ℕ

@@ -1,13 +1,13 @@
 //! The unit: what is programmed, what an occurrence adds, and which counters carry (PAPI_overflow(3): after a carry a
 //! register is loaded again so that it carries after the threshold).
-ghost use Rattle.std.specs.Prelude.{◌≡◌, ◌+◌, ◌-◌, ◌^◌, ◌<◌, ◌≤◌, ◌==◌, if◌then◌else◌, length, min, slice_index, slice_set, replicate, None, Some};
+ghost use Rattle.std.specs.Prelude.{◌≡◌, ◌+◌, ◌-◌, ◌^◌, ◌<◌, ◌≤◌, ◌==◌, if◌then◌else◌, length, min, nat_le, slice_index, slice_set, replicate, None, Some};
 ghost use Rattle.std.specs.Option.{option_copied, option_map};
 ghost use Rattle.papi_base.specs.Widths.{AreWidths};
 ghost use Rattle.papi_base.specs.declared.limits.TheConstants.{LEAST_WIDTH, MOST_COUNTERS, MOST_WIDTH};
 ghost use Rattle.counter_unit.specs.Selects.{AreAdmitted, ArePlain};
-ghost use Rattle.counter_unit.specs.Modes.{added};
-ghost use Rattle.counter_unit.specs.Counting.{IsThreshold, FitsWidth, beginning, period, at_place, begun, begun_again, wrapped};
-ghost use Rattle.counter_unit.specs.Counting.{Steps, all_moved, all_carries, bits_of, count_on};
+ghost use Rattle.counter_unit.specs.Counting.{IsThreshold, beginning, period, at_place, begun, begun_again, wrapped};
+ghost use Rattle.counter_unit.specs.Counting.{Steps, all_begun_again, all_moved, all_carries, bits_of, count_on};
+ghost use Rattle.counter_unit.specs.Units.{IsBegun, base_after, beginning_at, value_after};
 
 use crate::modes::weight_at;
 use crate::registers::Register;
@@ -19,23 +19,34 @@ use std::marker::Model;
 #[derive(Drop)]
 pub struct Unit {
     shape: CompShape,
-    /// A place for each counter, and none beyond them.
+    /// What is programmed on each counter, its register at its beginning, and nothing beyond them.
     registers: [Option<Register>; MOST_COUNTERS],
     /// The values of each counter's register, and one more than the greatest.
     rooms: [u64; MOST_COUNTERS],
+    /// Each counter's register now, and what is to be added for its count, modulo 2^64: what its carries took less its
+    /// beginning. 0 if nothing is programmed.
+    values: [u64; MOST_COUNTERS],
+    bases: [u64; MOST_COUNTERS],
+    /// Both as they begin.
+    first_values: [u64; MOST_COUNTERS],
+    first_bases: [u64; MOST_COUNTERS],
     selects: Selects,
 }
 
 impl Model for Unit {
     ghost use Rattle.std.specs.Prelude.{length, take};
     ghost use Rattle.counter_unit.specs.Counting.{UnitView};
-    ghost use Rattle.counter_unit.specs.Units.{IsUnit};
+    ghost use Rattle.counter_unit.specs.Units.{IsUnit, places_now};
 
     ghost Value = { UnitView };
 
-    ghost view = { λ u. record { widths = u.shape; registers = take (length u.shape) u.registers } };
+    ghost view = { λ u. record {
+      widths = u.shape;
+      registers = places_now (take (length u.shape) u.registers) u.values u.bases;
+    } };
 
-    ghost invariant = { λ u. IsUnit u.shape u.registers u.rooms u.selects };
+    ghost invariant = { λ u. IsUnit u.shape u.registers u.rooms u.values u.bases
+        u.first_values u.first_bases u.selects };
 }
 
 /// The values of a register of this width, and one more than the greatest.
@@ -71,45 +82,36 @@ fn beginning_of(width: u8, threshold: u64) -> u64
     room(width) - period_of(width, threshold)
 }
 
-/// Adds an amount at a place whose register has this room, and tells whether it carried.
+/// Adds an amount to a register that has this room and begins here, and tells whether it carried.
 #[inline(always)]
-fn add(place: &mut Option<Register>, width: u8, room: u64, more: u8) -> bool
-    requires low { LEAST_WIDTH ≤ width }
-    requires high { width ≤ MOST_WIDTH }
-    requires sound { FitsWidth width place.old }
-    requires room { room ≡ 2 ^ width }
-    ensures place { place.new ≡ (added width more place.old).place }
-    ensures carried { result ≡ (added width more place.old).carried }
+fn add(value: &mut u64, base: &mut u64, first: u64, room: u64, more: u8) -> bool
+    requires small { room ≤ 2 ^ MOST_WIDTH }
+    requires begins { first ≤ room }
+    requires below { value.old < room }
+    ensures value { value.new ≡ value_after room first value.old more }
+    ensures base { base.new ≡ base_after room first value.old base.old more }
+    ensures carried { result ≡ nat_le room (value.old + more) }
 {
-    match place {
-        None => false,
-        Some(register) => {
-            let sum = register.value + u64::from(more);
-            let carried = room <= sum;
-            if carried {
-                carry(register, width, sum);
-            } else {
-                register.value = sum;
-            }
-            carried
-        }
+    let sum = *value + u64::from(more);
+    let carried = room <= sum;
+    if carried {
+        carry(value, base, room - first, sum);
+    } else {
+        *value = sum;
     }
+    carried
 }
 
-/// A register that would have this sum starts again, and its period goes to its bank.
+/// A register that would have this sum starts again, and its period goes to its base.
 #[cold]
 #[inline(never)]
-fn carry(register: &mut Register, width: u8, sum: u64)
-    requires width { width ≤ MOST_WIDTH }
-    requires past { period width register.old.threshold ≤ sum }
-    ensures { register.new ≡ record register.old {
-      value = sum - period width register.old.threshold;
-      bank = wrapped (register.old.bank + period width register.old.threshold);
-    } }
+fn carry(value: &mut u64, base: &mut u64, period: u64, sum: u64)
+    requires past { period ≤ sum }
+    ensures value { value.new ≡ sum - period }
+    ensures base { base.new ≡ wrapped (base.old + period) }
 {
-    let period = period_of(width, register.threshold);
-    register.value = sum - period;
-    register.bank = register.bank.wrapping_add(period);
+    *value = sum - period;
+    *base = base.wrapping_add(period);
 }
 
 /// The first of n counters as a bit if an occurrence can move none, and no bit else.
@@ -139,16 +141,14 @@ fn amount_of(moved: u32, o: &Occ) -> u8
     if moved == 0 { 0 } else { o.amount }
 }
 
-/// The register at its beginning again, if the counter is programmed.
-fn again(place: Option<Register>, width: u8) -> Option<Register>
-    requires width { width ≤ MOST_WIDTH }
-    requires sound { FitsWidth width place }
-    ensures { result ≡ option_map (begun_again width) place }
+/// Where the register begins, or 0 if nothing is programmed.
+fn first_of(place: &Option<Register>) -> u64
+    ensures { result ≡ beginning_at place.now }
 {
-    let mut register = place?;
-    register.value = beginning_of(width, register.threshold);
-    register.bank = 0;
-    Some(register)
+    match place {
+        Some(register) => register.value,
+        None => 0,
+    }
 }
 
 impl Unit {
@@ -172,6 +172,10 @@ impl Unit {
             shape: shape.copy(),
             registers: [None; MOST_COUNTERS],
             rooms,
+            values: [0; MOST_COUNTERS],
+            bases: [0; MOST_COUNTERS],
+            first_values: [0; MOST_COUNTERS],
+            first_bases: [0; MOST_COUNTERS],
             selects: Selects::none(),
         }
     }
@@ -196,25 +200,21 @@ impl Unit {
         self.put(c, place);
     }
 
-    /// Another register, or none, is on the counter. The tables stay if it counts what was counted there.
+    /// Another register at its beginning, or none, is on the counter. The tables stay if it counts what was counted there.
     fn put(&mut self, c: u32, place: Option<Register>)
         requires exists { c < length self.old.widths }
-        requires sound { FitsWidth (slice_index self.old.widths c) place }
+        requires begun { IsBegun (slice_index self.old.widths c) place }
         ensures { self.new ≡ record self.old { registers = slice_set self.old.registers c place } }
     {
         let old = self.registers[c as usize];
         self.selects.put(c, &old, &place);
         self.registers[c as usize] = place;
-    }
-
-    /// What is programmed on a counter, if anything.
-    #[inline(always)]
-    fn place(&self, c: u32) -> Option<Register>
-        requires { c < length self.now.widths }
-        ensures value { result ≡ at_place self.now.registers c }
-        ensures sound { FitsWidth (slice_index self.now.widths c) result }
-    {
-        self.registers[c as usize]
+        let value = first_of(&place);
+        let base = 0u64.wrapping_sub(value);
+        self.first_values[c as usize] = value;
+        self.first_bases[c as usize] = base;
+        self.values[c as usize] = value;
+        self.bases[c as usize] = base;
     }
 
     /// Adds to each programmed register what the occurrence counts for it, if `before` came just before it. The result
@@ -267,9 +267,15 @@ impl Unit {
         while left != 0 {
             let c = left.trailing_zeros();
             left &= !(1 << c);
-            let place = &mut self.registers[c as usize];
+            let place = &self.registers[c as usize];
             let more = weight_at(place, has_bit(modified, c), amount, before, o);
-            let carried = add(place, self.shape.width(c), self.rooms[c as usize], more);
+            let carried = add(
+                &mut self.values[c as usize],
+                &mut self.bases[c as usize],
+                self.first_values[c as usize],
+                self.rooms[c as usize],
+                more,
+            );
             carry = with_rare_bit(carry, c, carried);
         }
         carry
@@ -282,25 +288,29 @@ impl Unit {
         ensures small { IfSome result (λ v. v < 2 ^ MOST_WIDTH) }
     {
         let _width = self.shape.width(c);
-        match self.place(c) {
-            Some(register) => Some(register.value),
+        match self.registers[c as usize] {
+            Some(_) => Some(self.values[c as usize]),
             None => None,
         }
     }
 
     /// What the native event on the counter counted since it was programmed or zeroed, modulo 2^64, and 0 if none is.
+    #[inline]
     pub fn count(&self, c: u32) -> u64
         requires exists { c < length self.now.widths }
         ensures { result ≡ count_on self.now c }
     {
-        let width = self.shape.width(c);
-        match self.place(c) {
-            Some(register) => {
-                let above = register.value - beginning_of(width, register.threshold);
-                register.bank.wrapping_add(above)
-            }
-            None => 0,
-        }
+        self.values[c as usize].wrapping_add(self.bases[c as usize])
+    }
+
+    /// All registers begin again.
+    pub fn restart(&mut self)
+        ensures { self.new ≡ record self.old {
+          registers = all_begun_again self.old.widths self.old.registers;
+        } }
+    {
+        self.values = self.first_values;
+        self.bases = self.first_bases;
     }
 
     /// The counter's register begins again, if it is programmed.
@@ -310,9 +320,8 @@ impl Unit {
             (at_place self.old.registers c)
             in self.new ≡ record self.old { registers = slice_set self.old.registers c again } }
     {
-        let width = self.shape.width(c);
-        let place = again(self.place(c), width);
-        self.put(c, place);
+        self.values[c as usize] = self.first_values[c as usize];
+        self.bases[c as usize] = self.first_bases[c as usize];
     }
 
     /// The widths of the counters.
