@@ -13,7 +13,7 @@ use Rattle.thread_core.proofs.Words.{position_is, rule_of_event, natives_of_even
 use Rattle.thread_core.proofs.Words.{HasUnit, AreWidths, IsFit, widths_at, get_at, unwrap_or, is_none, is_some, Refusal, if◌then◌else◌, Plain}
 use Rattle.thread_core.proofs.Words.{Enoevst, Ecombo, Bool, refusal_of, slot_faces, rested, Widths, places_of, IsPlaced, pins_show, pins_natives}
 use Rattle.thread_core.proofs.Words.{turns_show, rule_value, each_is_among, is_among, div-le_of_le-mul, counts_per_tick, All-map, Assigned}
-use Rattle.thread_core.proofs.Words.{NUMBER_BITS}
+use Rattle.thread_core.proofs.Words.{NUMBER_BITS, AreAlone, IsAlone, IsProgrammed}
 use Rattle.session_model.specs.declared.reply.Body.TheVariants as body
 use Rattle.call_type.specs.declared.call.Call.TheVariants as call
 use Rattle.thread_core.proofs.Squares.{numbers-length, kept_as, kept_cases}
@@ -189,12 +189,28 @@ slot_placed book shape past = kept_cases _
     sym same)
     (λ s slice pins armed places is. cc)
 
+-- nothing but the pins of a set is programmed on the unit that it is on
+slot_alone : (book : Book) (core : CoreView) (a : Account) (k : ℕ) → CoreStands book core a → (s : Kept) → at a.sets k ≡ Some s → IsFit book core.shape s.set
+    → IsAlone core.units (slot_of book core.shape a.past s)
+slot_alone book core a k h = kept_cases _
+    (λ s e fit pins armed places is. cc)
+    (λ s e fit pins armed places is.
+    let t = kept_as s true None in
+    let same : pins_of book t.set ≡ pins = cc in
+    let programmed : (comp : ℕ) (unit : UnitView) → t.set.component ≡ Some comp → slice_get core.units comp ≡ Some unit → IsProgrammed t.set.domain (pins_of book t.set) unit =
+    λ comp unit on there.
+    let ws = get_at core.shape comp (fit.has_component comp on) in
+    let unit_is = same_some _ unit (sym (unit_on book core a k comp t ws.0 h e refl on ws.1) ∙ there) in
+    subst (IsProgrammed t.set.domain (pins_of book t.set)) unit_is (record { counts = count a.past t; registers = refl }) in
+    subst (AreAlone core.units t.set.component t.set.domain) same (record { on_unit = on_counters book core a t h fit refl; programmed = programmed }))
+    (λ s slice e fit pins armed places is. cc)
+
 -- what the code asks for when it zeroes a set
-pub has_unit : (book : Book) (core : CoreView) (k : ℕ) (slot : Slot) → AgreesWith book core → at core.slots k ≡ Some slot → HasUnit core.units slot
+pub has_unit : (book : Book) (core : CoreView) (k : ℕ) (slot : Slot) → AgreesWith book core → at core.slots k ≡ Some slot → IsAlone core.units slot
 has_unit book core k slot agrees there =
     let u = under book core agrees.account k slot agrees.stands there in
     let fit = fit_of book core agrees.account k u.set agrees.stands u.at_set in
-    subst (HasUnit core.units) u.is (slot_has_unit book core agrees.account agrees.stands u.set fit)
+    subst (IsAlone core.units) u.is (slot_alone book core agrees.account k agrees.stands u.set u.at_set fit)
 
 -- what it asks for when it tells of one
 pub tellable : {book : Book} {core : CoreView} (k : ℕ) {now : ℕ} {slot : Slot} → now ≡ time_after core.last → AgreesWith book core → at core.slots k ≡ Some slot

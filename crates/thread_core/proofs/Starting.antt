@@ -7,9 +7,9 @@ use Rattle.thread_core.proofs.Words.{faces_of, ◌==◌, not, CoreStands, Face, 
 use Rattle.thread_core.proofs.Words.{get_position, lead_among, slice_get_within, subst, placed, pinned, ArePinned, same_some, time_after, slice_set}
 use Rattle.thread_core.proofs.Words.{Follows, end, ◌≤◌, take, drop, runs, cond-true, ◌-◌, estimate, total, active, measured, groups, masks_of}
 use Rattle.thread_core.proofs.Words.{slice_index, position_or_len, same_native, map, slot_of, map_same, AreApart, units_of, at-some, ℤ, values_shown}
-use Rattle.thread_core.proofs.Words.{numbers_shown, done, values_of, Domain, Pin, Register, programs, set, register_at, get_or, AgreesWith}
-use Rattle.thread_core.proofs.Words.{length-map, event_value, number_in, subst₂, Bool, drop_all, set_comm, set-set, or_parts, not-true, not-false}
-use Rattle.thread_core.proofs.Words.{eqb-false, slot_with, rotation_of, begun_by, IsStartable, has_events, take_all, length-drop, pinned-tail, zeroed}
+use Rattle.thread_core.proofs.Words.{numbers_shown, done, values_of, Register, programs, AgreesWith}
+use Rattle.thread_core.proofs.Words.{length-map, event_value, number_in, subst₂, Bool, drop_all, or_parts, not-true, not-false}
+use Rattle.thread_core.proofs.Words.{eqb-false, slot_with, rotation_of, begun_by, IsStartable, has_events, take_all, length-drop, zeroed, programs-again}
 use Rattle.thread_core.proofs.Words.{set-same, sums, accumulated, rested, ForSome, numbered, IsValued, armable, zeroed_slot, zeroed_on, zeroed_at}
 use Rattle.thread_core.proofs.Words.{zeroed_units, slot_with_sums}
 use Rattle.call_type.specs.declared.call.Call.TheVariants as call
@@ -229,25 +229,6 @@ stop_follows book core k now values units slot new g time here says new_units sa
     })
 
 -- ---- zero
-
--- what is put on a counter that no pin is on stays
-programs-set : (ws : List ℕ) (d : Domain) (counts : Native → ℕ) (pins : List Pin) (rs : List (Option Register)) (c : ℕ) (x : Option Register) → ((k : ℕ) (q : Pin) → slice_get pins k ≡ Some q → c ≡ q.counter → ⊥)
-    → programs ws d counts pins (set rs c x) ≡ set (programs ws d counts pins rs) c x
-programs-set ws d counts [] rs c x h = refl
-programs-set ws d counts (p ∷ ps) rs c x h =
-    let r = Some (register_at (get_or ws p.counter 0) p.native d p.threshold (counts p.native)) in
-    ap (programs ws d counts ps) (set_comm rs c p.counter x r (h 0 p refl)) ∙ programs-set ws d counts ps (set rs p.counter r) c x (λ k q e. h (suc k) q e)
-
--- pins that are programmed again leave nothing of what they were before
-programs-again : (ws : List ℕ) (d : Domain) (f g : Native → ℕ) (pins : List Pin) (rs : List (Option Register)) → ArePinned ws pins → programs ws d f pins (programs ws d g pins rs) ≡ programs ws d f pins rs
-programs-again ws d f g [] rs h = refl
-programs-again ws d f g (p ∷ ps) rs h =
-    let w = get_or ws p.counter 0 in
-    let a = Some (register_at w p.native d p.threshold (f p.native)) in
-    let b = Some (register_at w p.native d p.threshold (g p.native)) in
-    let apart : (k : ℕ) (q : Pin) → slice_get ps k ≡ Some q → p.counter ≡ q.counter → ⊥ = λ k q e is. (let none = h.apart 0 (suc k) p q refl e is in absurd (omega arith)) in
-    ap (programs ws d f ps) (sym (programs-set ws d g ps (set rs p.counter b) p.counter a apart) ∙ ap (programs ws d g ps) (set-set rs p.counter b a))
-    ∙ programs-again ws d f g ps (set rs p.counter a) (pinned-tail ws p ps h)
 
 -- what is kept of a set that is zeroed
 pub slot_zeroed : (book : Book) (shape : Widths) (past : List Occ) (now : ℕ) → now ≡ clock past (length past) → (s : Kept)

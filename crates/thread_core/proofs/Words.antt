@@ -91,7 +91,7 @@ pub use Rattle.thread_slots.proofs.Carries.{AreTold, pin_carries, pin_passes}
 pub use Rattle.thread_slots.proofs.Lists.{all_at, at-some, at_read, drop_at, get-map, get-map_some, get-set_other, get-set_same, get_at, map_same}
 pub use Rattle.thread_slots.proofs.Lists.{map_same_on, same_items, same_some, set-same, some-at}
 pub use Rattle.thread_slots.proofs.Placing.{get-pins_from, get_position, lead_among, pin_made, pinned, placed, position_is, threshold_is}
-pub use Rattle.thread_slots.proofs.Programs.{all_moved-none, all_moved-programs, pinned-tail, programs-at, programs-other, programs-same}
+pub use Rattle.thread_slots.proofs.Programs.{all_moved-none, all_moved-programs, pinned-tail, programs-again, programs-at, programs-other, programs-same}
 pub use Rattle.thread_slots.proofs.Telling.{pins_natives, pins_show, turns_show}
 pub use Rattle.thread_slots.specs.Accumulated.{slot_with_sums}
 pub use Rattle.thread_slots.specs.Altering.{IsFor, change_refusal, changing_call, code_before, lacks_component, slot_after}
@@ -99,7 +99,7 @@ pub use Rattle.thread_slots.specs.Changed.{rested, slot_with_event}
 pub use Rattle.thread_slots.specs.Countable.{AreCountable, IsCountable, IsTurn}
 pub use Rattle.thread_slots.specs.Counted.{Counted, CountedAll, carry_of, counted, counted_all, counted_at, counted_over, counted_place, with_turn}
 pub use Rattle.thread_slots.specs.EventPlaces.{places_of}
-pub use Rattle.thread_slots.specs.Pinned.{AreOnUnit, ArePinned, HasUnit, armed_event, armed_from, armed_of, pins_of, place_of_lead, programs}
+pub use Rattle.thread_slots.specs.Pinned.{AreAlone, AreOnUnit, ArePinned, HasUnit, IsAlone, IsProgrammed, armed_event, armed_from, armed_of, pins_of, place_of_lead, programs}
 pub use Rattle.thread_slots.specs.RawRegister.{register_by, register_on, register_shown, register_value}
 pub use Rattle.thread_slots.specs.Shown.{IsInTurns, IsPlaced, IsTellable, number_in, numbers_shown, turn_numbers, unit_numbers, values_shown}
 pub use Rattle.thread_slots.specs.Slots.{face_of_slot, is_counting, new_slot, numbers_of, rotation_of, turned}

@@ -1,6 +1,7 @@
 pub mod Words
 pub mod Lists
 pub mod Programs
+pub mod Restarting
 pub mod Carries
 pub mod Placing
 pub mod Turning

@@ -1,7 +1,7 @@
 -- What is programmed, pin by pin.
-use Rattle.thread_slots.proofs.Words.{◌≡◌, ℕ, zero, suc, ◌+◌, ◌≤◌, List, [], ◌∷◌, length, get_or, set, replicate, refl, ap, subst, ◌∙◌, arith, Option}
+use Rattle.thread_slots.proofs.Words.{◌≡◌, ℕ, zero, suc, ◌+◌, ◌≤◌, List, [], ◌∷◌, length, get_or, set, replicate, refl, ap, subst, sym, ◌∙◌, arith, Option}
 use Rattle.thread_slots.proofs.Words.{Some, None, slice_get, get_or-set_same, Occ, Native, Domain, weight_of, AreWidths, weight_of-le, Register}
-use Rattle.thread_slots.proofs.Words.{at_place, moved_place, register_at, added, Pin, programs, ArePinned, get_or-set_other, length-set, all_moved}
+use Rattle.thread_slots.proofs.Words.{at_place, moved_place, register_at, added, Pin, programs, ArePinned, get_or-set_other, length-set, all_moved, set-set, set_comm}
 
 pub pinned-tail : (widths : List ℕ) (p : Pin) (ps : List Pin) → ArePinned widths (p ∷ ps) → ArePinned widths ps
 pinned-tail widths p ps h = record {
@@ -63,3 +63,22 @@ programs-at ws d counts (q ∷ ps) rs zero p h e g =
 programs-at ws d counts (q ∷ ps) rs (suc k) p h e g =
     let r = Some (register_at (get_or ws q.counter 0) q.native d q.threshold (counts q.native)) in
     programs-at ws d counts ps (set rs q.counter r) k p (pinned-tail ws q ps h) (length-set rs q.counter r ∙ e) g
+
+-- what is put on a counter that no pin is on stays
+pub programs-set : (ws : List ℕ) (d : Domain) (counts : Native → ℕ) (pins : List Pin) (rs : List (Option Register)) (c : ℕ) (x : Option Register) → ((k : ℕ) (q : Pin) → slice_get pins k ≡ Some q → c ≡ q.counter → ⊥)
+    → programs ws d counts pins (set rs c x) ≡ set (programs ws d counts pins rs) c x
+programs-set ws d counts [] rs c x h = refl
+programs-set ws d counts (p ∷ ps) rs c x h =
+    let r = Some (register_at (get_or ws p.counter 0) p.native d p.threshold (counts p.native)) in
+    ap (programs ws d counts ps) (set_comm rs c p.counter x r (h 0 p refl)) ∙ programs-set ws d counts ps (set rs p.counter r) c x (λ k q e. h (suc k) q e)
+
+-- pins that are programmed again leave nothing of what they were before
+pub programs-again : (ws : List ℕ) (d : Domain) (f g : Native → ℕ) (pins : List Pin) (rs : List (Option Register)) → ArePinned ws pins → programs ws d f pins (programs ws d g pins rs) ≡ programs ws d f pins rs
+programs-again ws d f g [] rs h = refl
+programs-again ws d f g (p ∷ ps) rs h =
+    let w = get_or ws p.counter 0 in
+    let a = Some (register_at w p.native d p.threshold (f p.native)) in
+    let b = Some (register_at w p.native d p.threshold (g p.native)) in
+    let apart : (k : ℕ) (q : Pin) → slice_get ps k ≡ Some q → p.counter ≡ q.counter → ⊥ = λ k q e is. (let none = h.apart 0 (suc k) p q refl e is in absurd (omega arith)) in
+    ap (programs ws d f ps) (sym (programs-set ws d g ps (set rs p.counter b) p.counter a apart) ∙ ap (programs ws d g ps) (set-set rs p.counter b a))
+    ∙ programs-again ws d f g ps (set rs p.counter a) (pinned-tail ws p ps h)

@@ -7,8 +7,8 @@ pub use Rattle.counter_alloc.specs.Masks.{AreMasks, masks_of}
 pub use Rattle.counter_unit.proofs.Bits.{bit_at-bits_of}
 pub use Rattle.counter_unit.proofs.Counts.{added, begun_is, exact_is}
 pub use Rattle.counter_unit.proofs.Steps.{carries_at}
-pub use Rattle.counter_unit.specs.Counting.{IsThreshold, UnitView, all_carries, all_moved, at_place, begun, bits_of, carries, count_on, moved_place}
-pub use Rattle.counter_unit.specs.Counting.{period, register_at, whole}
+pub use Rattle.counter_unit.specs.Counting.{IsThreshold, UnitView, all_begun_again, all_carries, all_moved, at_place, begun, bits_of, carries, count_on, moved_place}
+pub use Rattle.counter_unit.specs.Counting.{begun_again, period, register_at, whole}
 pub use Rattle.counter_unit.specs.declared.registers.Register.{Register}
 pub use Rattle.event_sets.proofs.Agreeing.{held_have_natives}
 pub use Rattle.event_sets.specs.Assigning.{counters_for}
@@ -50,23 +50,24 @@ pub use Rattle.std.proofs.lemmas.Bool.{eq-eqb, lt-ltb, ltb-true, ne_eqb}
 pub use Rattle.std.proofs.lemmas.Grind.{common_steps, elements}
 pub use Rattle.std.proofs.lemmas.Int.{to_z-of_z}
 pub use Rattle.std.proofs.lemmas.List.{append-nil, drop-drop, drop-replicate, drop-set-lt, drop_all, get_or-replicate, get_or-set_other}
-pub use Rattle.std.proofs.lemmas.List.{get_or-set_same, length-drop, length-map, length-replicate, length-set, take_all, take_more_set}
+pub use Rattle.std.proofs.lemmas.List.{get_or-set_same, length-drop, length-map, length-replicate, length-set, set-set, set_comm, take_all, take_more_set}
 pub use Rattle.std.proofs.lemmas.Nat.Bits.{bit_at-zero}
 pub use Rattle.std.proofs.lemmas.Option.{get_or_from_slice_get, slice_get-get_or, slice_get_read, slice_get_within}
 pub use Rattle.std.proofs.lemmas.Simd.{map-map}
 pub use Rattle.std.specs.Int.{bit_at, int_wrapping_add}
 pub use Rattle.std.specs.List.{position_or_len}
-pub use Rattle.std.specs.Option.{option_and_then, option_copied, option_map_or}
+pub use Rattle.std.specs.Option.{option_and_then, option_copied, option_map, option_map_or}
 pub use Rattle.std.specs.Prelude.{All, FitsSigned, if◌then◌else◌, is_some, nat_lt, unwrap_or, ℤ, ◌==◌}
 pub use Rattle.thread_slots.specs.Coded.{AreCoded}
 pub use Rattle.thread_slots.specs.Counted.{with_turn}
 pub use Rattle.thread_slots.specs.EventPlaces.{places_of, places_of_event}
 pub use Rattle.thread_slots.specs.FirstPlaces.{AreFirst, key_of}
 pub use Rattle.thread_slots.specs.Numbers.{AreGiven, numbers_at}
-pub use Rattle.thread_slots.specs.Pinned.{ArePinned, armed_event, armed_from, pins_from, pins_of, place_of_lead, programs}
+pub use Rattle.thread_slots.specs.Pinned.{AreAlone, ArePinned, IsProgrammed, armed_event, armed_from, pins_from, pins_of, place_of_lead, programs}
 pub use Rattle.thread_slots.specs.Shown.{number_in, numbers_in, numbers_shown, pin_numbers, turn_numbers, unit_numbers}
 pub use Rattle.thread_slots.specs.Slots.{turned}
 pub use Rattle.thread_slots.specs.Starting.{IsArmable}
+pub use Rattle.thread_slots.specs.Zeroed.{zeroed_at, zeroed_on, zeroed_unit}
 pub use Rattle.thread_slots.specs.declared.pins.Pin.{Pin}
 pub use Rattle.thread_slots.specs.declared.slot.Slot.{Slot}
 pub use Rattle.thread_slots.specs.declared.values.TheConstants.{NUMBER_BITS}

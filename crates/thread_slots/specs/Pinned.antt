@@ -66,6 +66,20 @@ pub record AreOnUnit (units : List UnitView) (component : Option ℕ) (pins : Li
   pub widths : (comp : ℕ) (unit : UnitView) → component ≡ Some comp → slice_get units comp ≡ Some unit → AreWidths unit.widths
   pub pinned : (comp : ℕ) (unit : UnitView) → component ≡ Some comp → slice_get units comp ≡ Some unit → ArePinned unit.widths pins
 
+-- nothing but these pins is programmed on the unit, in this domain, whatever they counted
+pub record IsProgrammed (d : Domain) (pins : List Pin) (unit : UnitView) : Type 0 where
+  pub counts : Native → ℕ
+  pub registers : unit.registers ≡ programs unit.widths d counts pins (replicate (length unit.widths) None)
+
+-- the pins are on counters of the component's unit, and nothing else is
+pub record AreAlone (units : List UnitView) (component : Option ℕ) (d : Domain) (pins : List Pin) : Type 0 where
+  pub on_unit : AreOnUnit units component pins
+  pub programmed : (comp : ℕ) (unit : UnitView) → component ≡ Some comp → slice_get units comp ≡ Some unit → IsProgrammed d pins unit
+
+-- a set on its unit is alone on it
+abbrev pub IsAlone : List UnitView → Slot → Type 0
+IsAlone units slot = (pins : List Pin) (armed : List (Option ℕ)) (places : List ℕ) → slot.counting ≡ counting.OnUnit pins armed places → AreAlone units slot.set.rest.component slot.set.rest.domain pins
+
 -- a set on its unit is on counters of it
 abbrev pub HasUnit : List UnitView → Slot → Type 0
 HasUnit units slot = (pins : List Pin) (armed : List (Option ℕ)) (places : List ℕ) → slot.counting ≡ counting.OnUnit pins armed places → AreOnUnit units slot.set.rest.component pins
