@@ -5,6 +5,7 @@
 pub mod events;
 mod keeping;
 pub mod kept;
+mod pushing;
 mod reading;
 pub mod replies;
 

@@ -15,8 +15,8 @@ use std::marker::Model;
 /// Replies, in order. Contracts see the list of them.
 #[derive(Drop)]
 pub struct Replies {
-    heads: Vec<Head>,
-    store: Store,
+    pub(crate) heads: Vec<Head>,
+    pub(crate) store: Store,
 }
 
 impl Model for Replies {
