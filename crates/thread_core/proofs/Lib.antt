@@ -12,6 +12,7 @@ pub mod RefusalCodes
 pub mod Shows
 pub mod Squares
 pub mod Starting
+pub mod Sums
 pub mod Taking
 pub mod Weighing
 pub mod Words

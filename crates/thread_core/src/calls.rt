@@ -1,8 +1,9 @@
 //! The calls on a thread's event sets, in the order of their manual pages' table: registering, making and filling sets,
 //! counting, and looking.
-ghost use Rattle.std.specs.Prelude.{◌≡◌, ◌≢◌, IfErr, IfOk, OnErr, OnOk, length};
+ghost use Rattle.std.specs.Prelude.{◌≡◌, ◌≢◌, ◌≤◌, IfErr, IfOk, OnErr, OnOk, drop, length, take};
 ghost use Rattle.std.specs.Option.{option_copied};
 ghost use Rattle.papi_base.specs.declared.code.Code.TheVariants as code;
+ghost use Rattle.papi_base.specs.declared.limits.TheConstants.{MOST_ITEMS};
 ghost use Rattle.postfix_rules.specs.Fitting.{IsNamed};
 ghost use Rattle.session_model.specs.Faces.{at};
 ghost use Rattle.session_model.specs.Replies.{plain};
@@ -16,10 +17,23 @@ ghost use Rattle.thread_slots.specs.Altering.{IsFor, changing_call};
 use crate::refusal::set_under;
 use crate::thread::Core;
 use event_sets::Refusal;
-use papi_base::{Code, Events, Values};
+use papi_base::{Code, Events, MOST_ITEMS, Values};
 use postfix_rules::PresetBook;
 use session_model::{Assigned, Named};
 use thread_slots::{Change, Slot, free_number};
+
+/// The values in the first places of an array.
+fn first_values(all: &[i64], count: u32) -> Values
+    requires few { count ≤ MOST_ITEMS }
+    requires there { count ≤ length all.now }
+    ensures { result ≡ take count all.now }
+{
+    let mut values = Values::new();
+    for i in 0..count {
+        values.push(all[i as usize]);
+    }
+    values
+}
 
 impl Core {
     /// Registers the thread, which may be registered already: PAPI_register_thread(3).
@@ -223,6 +237,7 @@ impl Core {
             in Follows book.now self.now self.now (call.Read set)
             (reply_of (λ n. body.Values values) result) }
         ensures count { IfOk result (λ n. n ≡ length (values_in book.now self.now set)) }
+        ensures few { IfOk result (λ n. n ≤ MOST_ITEMS) }
         ensures given { OnOk result (AreGiven (values_in book.now self.now set) out.old out.new) }
         ensures refused { IfErr result (λ c. c ≡ code.Enoevst) }
         ensures kept { OnErr result (out.new ≡ out.old) }
@@ -241,17 +256,39 @@ impl Core {
             (values_reply result into.new) }
         ensures kept { result ≢ code.Ok → into.new ≡ into.old }
     {
+        let mut sums = [0; MOST_ITEMS];
+        match self.accum_into(book, set, &mut sums) {
+            Ok(count) => {
+                *into = first_values(&sums, count);
+                Code::Ok
+            }
+            Err(code) => code,
+        }
+    }
+
+    /// The same with the sums in the first places of an array that has room for all, and gives their number: PAPI_accum(3).
+    /// ENOEVST if there is no such set; `out` then stays as it is.
+    pub fn accum_into(&mut self, book: &PresetBook, set: u32, out: &mut [i64]) -> Result<u32, Code>
+        requires agrees { AgreesWith book.now self.old }
+        requires room { MOST_ITEMS ≤ length out.old }
+        ensures follows { Follows book.now self.old self.new (call.Accum set)
+            (reply_of (λ n. body.Values (take n out.new)) result) }
+        ensures few { IfOk result (λ n. n ≤ MOST_ITEMS) }
+        ensures past { IfOk result (λ n. drop n out.new ≡ drop n out.old) }
+        ensures long { length out.new ≡ length out.old }
+        ensures refused { IfErr result (λ c. c ≡ code.Enoevst) }
+        ensures kept { OnErr result (out.new ≡ out.old) }
+    {
         if let Some(code) = self.zero_refusal(set) {
-            return code;
+            return Err(code);
         }
         let now = self.time();
         let Some(slot) = &mut self.slots[set as usize] else {
-            return Code::Enoevst;
+            return Err(Code::Enoevst);
         };
-        slot.read(&self.units, book, now, into);
+        slot.read_into(&self.units, book, now, out);
         slot.zero(&mut self.units, now);
-        slot.accumulate(into);
-        Code::Ok
+        Ok(slot.accumulate_into(out))
     }
 
     /// Zeroes the counts of a set, running or not: PAPI_reset(3). ENOEVST if there is no such set.

@@ -1,6 +1,8 @@
 use Rattle.thread_core.proofs.Answering.{refl, sym, ◌∙◌, ap, ap₂, at, ◌≡◌, Some, subst, option_copied, absent_follows, goes_there, CoreView, List, UnitView}
 use Rattle.thread_core.proofs.Answering.{values_shown, ℕ, tellable, read_follows}
 use Rattle.std.specs.Prelude.{ℤ, length}
+use Rattle.std.proofs.Common.{arith}
+use Rattle.thread_core.proofs.Sums.{few_shown}
 use Rattle.thread_core.specs.Told.{AreGiven, values_in, values_of_place}
 use Rattle.thread_core.proofs.thread.Core.read_into.Goals as goal
 use Rattle.thread_core.proofs.thread.Core.read_into.Goals.{In-Some, After-deref, After-read_into}
@@ -38,3 +40,9 @@ pub returns-clause-given : goal.returns-clause-given
 returns-clause-given c =
     let w = goal.at.returns-clause-given c in
     subst (λ (vs : List ℤ). AreGiven vs c.args.out.now c.read_into.new.out) (told w.After-read_into) c.read_into.ensures.given
+
+pub returns-clause-few : goal.returns-clause-few
+returns-clause-few c =
+    let w = goal.at.returns-clause-few c in
+    let same = ap (λ (us : List UnitView). length (values_shown c.args.book.now us c.time.result c.in-Some.slot.now)) (units w.After-deref) in
+    omega (arith, c.read_into.ensures.count, same, few_shown c.args.set c.time.result c.requires (lent w.In-Some))
