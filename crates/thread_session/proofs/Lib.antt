@@ -10,6 +10,7 @@ pub mod Delivering
 pub mod Rooms
 pub mod Calling
 pub mod Handed
+pub mod KeptReplies
 pub mod Opened
 pub mod Growing
 pub mod Words

@@ -5,6 +5,7 @@ pub mod Stands
 pub mod Follows
 pub mod Happening
 pub mod Room
+pub mod Keeping
 pub use Rattle.event_sets.specs.Agreement
 pub use Rattle.overflow_dispatch.specs.Notes
 pub use Rattle.papi_base.specs.Streams

@@ -1,6 +1,7 @@
 //! What the calls of a core answer, as replies.
 ghost use Rattle.std.specs.Prelude.{◌≡◌, false};
 ghost use Rattle.session_model.specs.Conditions.{IsGood};
+ghost use Rattle.session_model.specs.Step.{code_of};
 ghost use Rattle.call_type.specs.declared.call.Call.TheVariants as call;
 ghost use Rattle.session_model.specs.declared.reply.Body.TheVariants as body;
 ghost use Rattle.thread_core.specs.Following.{Follows, changed_reply, reply_of, values_reply};
@@ -65,17 +66,24 @@ fn values_reply(code: Code, values: Values) -> Reply
     }
 }
 
+/// The code of a run.
+#[inline(always)]
+pub(crate) fn code_of(ended: Ended) -> Code
+    ensures { result ≡ code_of ended }
+{
+    match ended {
+        Ended::Going => Code::Ok,
+        Ended::Bad { .. } | Ended::Fault => Code::Esys,
+    }
+}
+
 /// What a run did.
 #[inline(always)]
 pub(crate) fn run_reply(ran: Ran) -> Reply
     ensures { result ≡ run_reply ran }
 {
-    let code = match ran.ended {
-        Ended::Going => Code::Ok,
-        Ended::Bad { .. } | Ended::Fault => Code::Esys,
-    };
     Reply {
-        code,
+        code: code_of(ran.ended),
         body: Body::Ran(ran),
     }
 }

@@ -6,6 +6,7 @@ mod calls;
 mod delivery;
 mod filling;
 mod happening;
+mod keeping;
 mod running;
 pub mod session;
 
