@@ -1,9 +1,9 @@
 -- A job after its first calls, and after all of them.
 use Rattle.thread_registry.proofs.Words.{nat_tests, ◌≡◌, ℕ, ◌+◌, ◌<◌, ◌≤◌, Bool, true, false, List, [], ◌∷◌, ◌++◌, All, length, take, get_or, ap, ap₂}
 use Rattle.thread_registry.proofs.Words.{sym, ◌∙◌, append_assoc, length-append, arith, subst, cases_lt, take_all, All-push, MatchBool, Book, Note}
-use Rattle.thread_registry.proofs.Words.{Begun, Grown, PartAdded, Call, Reply, Account, step, account_after, replies_to, notes_to, FaultsKept}
-use Rattle.thread_registry.proofs.Words.{FaultsRose, IsFaultReply, fault_count, SessionView, Coming, Widths, CoreStands, FollowsTo, IsCutTo}
-use Rattle.thread_registry.proofs.Words.{expecting, CanCome, IsReady, Stands, to_come, grown_more, JobView, Replied, Worked, WorkedTo, Finished}
+use Rattle.thread_registry.proofs.Words.{Begun, Grown, Call, Reply, Account, step, account_after, replies_to, notes_to, FaultsKept}
+use Rattle.thread_registry.proofs.Words.{FaultsRose, IsFaultReply, fault_count, SessionView, Coming, Widths, CoreStands, FollowsTo}
+use Rattle.thread_registry.proofs.Words.{expecting, CanCome, IsStarvedTo, IsReady, Stands, to_come, grown_more, JobView, Replied, Worked, WorkedTo, Finished}
 use Rattle.thread_registry.proofs.Words.{FinishedTo, CutShort, WorkedOrIdle, seen_of}
 use Rattle.thread_registry.proofs.Folds.{after-more, replies-more, notes-more, replies-front, notes-part}
 use Rattle.thread_registry.proofs.Faults.{kept-kept, kept-rose, rose-kept}
@@ -140,12 +140,6 @@ going-more book x y z k c r g h e called p q rs =
           going-to-more book x y z k c r left h e g.shape f rs (g.towards f.expected f.can_come);
     }
 
--- some of the first notes of a call to which memory was refused, if this is left to come
-pub record CallStarvedTo (book : Book) (y z : JobView) (c : Call) : Type 0 where
-  pub expected : Coming
-  pub can_come : CanCome y.session.reader expected
-  pub part : (a : Account) → CoreStands book y.session.core a → Begun y.notes (step book y.session.core.shape (expecting expected a) c).notes z.notes
-
 -- what a call left to which memory was refused
 pub record CallStarved (book : Book) (y z : JobView) (c : Call) : Type 0 where
   pub shape : z.session.core.shape ≡ y.session.core.shape
@@ -153,7 +147,7 @@ pub record CallStarved (book : Book) (y z : JobView) (c : Call) : Type 0 where
   pub faults : FaultsKept (fault_count y.session.reader) (fault_count z.session.reader)
   pub grown : Grown y.notes z.notes
   pub part : (a : Account) → Stands book y.session a → Begun y.notes (step book y.session.core.shape a c).notes z.notes
-  pub towards : (left : Coming) → CanCome z.session.reader left → CallStarvedTo book y z c
+  pub towards : (left : Coming) → CanCome z.session.reader left → IsStarvedTo book y.session c y.notes z.notes left
 
 begun-of : (before given after : List Note) (n : ℕ) → after ≡ before ++ take n given → Begun before given after
 begun-of before given after n e = grind (arith, nat_tests, cases_lt, take_all)
@@ -180,42 +174,14 @@ cut-along book x y z k c a h e shape refused p g =
     let b = account_after book x.session.core.shape a (take k x.calls) in
     cut-by book x y z k c a h e p g.replies g.notes (subst (λ v. Begun y.notes (step book v b c).notes z.notes) shape (refused.part b g.stands))
 
-cut-along-to : (book : Book) (x y z : JobView) (k : ℕ) (c : Call) (a : Account) → k < length x.calls → get_or x.calls k c ≡ c
-    → y.session.core.shape ≡ x.session.core.shape → (refused : CallStarvedTo book y z c) → z.replies ≡ y.replies
+cut-along-to : (book : Book) (x y z : JobView) (k : ℕ) (c : Call) (left : Coming) (a : Account) → k < length x.calls → get_or x.calls k c ≡ c
+    → y.session.core.shape ≡ x.session.core.shape → (refused : IsStarvedTo book y.session c y.notes z.notes left) → z.replies ≡ y.replies
     → AlongTo book a x y k refused.expected → CutShort book a x z
-cut-along-to book x y z k c a h e shape refused p g =
+cut-along-to book x y z k c left a h e shape refused p g =
     let b = account_after book x.session.core.shape a (take k x.calls) in
     let same : expecting refused.expected b ≡ b = ap (λ (q : Coming). expecting q b) (sym g.comes_then) in
     cut-by book x y z k c a h e p g.replies g.notes
-    (subst (λ v. Begun y.notes (step book v b c).notes z.notes) shape (subst (λ (q : Account). Begun y.notes (step book y.session.core.shape q c).notes z.notes) same (refused.part b g.core)))
-
-pub begun-of-part : (before given after : List Note) → PartAdded before given after → Begun before given after
-begun-of-part before given after h = (h.0, omega (arith, h.1), h.2)
-
--- all notes are some of the first
-begun-of-all : (before given after : List Note) → after ≡ before ++ given → Begun before given after
-begun-of-all before given after e = (length given, omega arith, e ∙ ap (λ v. before ++ v) (sym (take_all (length given) given (omega arith))))
-
-pub refused-to-of-cut : (book : Book) (y z : JobView) (c : Call) (left : Coming) → IsCutTo book y.session c y.notes z.notes left → CallStarvedTo book y z c
-refused-to-of-cut book y z c left cut = grind (arith, nat_tests, begun-of-part)
-
-refused-to-of-made : (book : Book) (y z : JobView) (c : Call) (r : Reply) (left : Coming) → FollowsTo book y.session z.session c r y.notes z.notes left → CallStarvedTo book y z c
-refused-to-of-made book y z c r left f = grind (arith, nat_tests, begun-of-all)
-
--- a call that was made, if its reply could not be kept
-pub refused-of : (book : Book) (y z : JobView) (c : Call) (r : Reply) → Called book y z c r → CallStarved book y z c
-refused-of book y z c r called =
-    record {
-      shape = called.shape;
-      ready = called.ready;
-      faults = called.faults;
-      grown = called.grown;
-      part =
-          λ a s.
-          let ns = (step book y.session.core.shape a c).notes in
-          (length ns, omega arith, (called.follows a s).2 ∙ ap (λ v. y.notes ++ v) (sym (take_all (length ns) ns (omega arith))));
-      towards = λ left h. refused-to-of-made book y z c r left (called.towards left h);
-    }
+    (subst (λ v. Begun y.notes (step book v b c).notes z.notes) shape (subst (λ (q : Account). Begun y.notes (step book y.session.core.shape q c).notes z.notes) same (refused.notes b g.core)))
 
 pub going-cut : (book : Book) (x y z : JobView) (k : ℕ) (c : Call) → Going book x y k → k < length x.calls → get_or x.calls k c ≡ c
     → CallStarved book y z c → z.calls ≡ y.calls → z.starved ≡ true → z.replies ≡ y.replies
@@ -243,7 +209,7 @@ going-cut book x y z k c g h e refused p q rs =
           record {
             expected = way.expected;
             can_come = way.can_come;
-            outcome = λ a s t. subst (λ b. MatchBool b (CutShort book a x z) (FinishedTo book a x z left)) (sym q) (cut-along-to book x y z k c a h e g.shape f rs (way.along a s t));
+            outcome = λ a s t. subst (λ b. MatchBool b (CutShort book a x z) (FinishedTo book a x z left)) (sym q) (cut-along-to book x y z k c left a h e g.shape f rs (way.along a s t));
           };
     }
 

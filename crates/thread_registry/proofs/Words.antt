@@ -2,7 +2,7 @@
 pub use Rattle.call_type.specs.Calls.{name_of}
 pub use Rattle.call_type.specs.declared.call.Call.TheVariants.{Register}
 pub use Rattle.event_sets.specs.AtRest.{Widths}
-pub use Rattle.overflow_dispatch.specs.Notes.{Begun, EachAdded, EachBegun, EachGrown, Grown, PartAdded}
+pub use Rattle.overflow_dispatch.specs.Notes.{Begun, EachAdded, EachBegun, EachGrown, Grown}
 pub use Rattle.overflow_dispatch.specs.declared.handler.Note.{Note}
 pub use Rattle.papi_base.specs.Outside.{Rose, Tape}
 pub use Rattle.papi_base.specs.Streams.{Coming, Dry}
@@ -67,10 +67,12 @@ pub use Rattle.thread_registry.specs.declared.runner.lines.AnsweredLine.{Answere
 pub use Rattle.thread_registry.specs.declared.runner.plan.PlanLine.{PlanLine}
 pub use Rattle.thread_registry.specs.declared.runner.result.ReplyLine.{ReplyLine}
 pub use Rattle.thread_registry.specs.declared.runner.works.Work.{Work}
+pub use Rattle.thread_session.proofs.Endings.{follows_reply}
 pub use Rattle.thread_session.proofs.Failing.{kept_same}
 pub use Rattle.thread_session.proofs.Growing.{grown_more, grown_same}
 pub use Rattle.thread_session.specs.Faults.{FaultsKept, FaultsRose, IsFaultReply, fault_count}
-pub use Rattle.thread_session.specs.Follows.{FollowsTo, IsCutTo, expecting}
+pub use Rattle.thread_session.specs.Follows.{FollowsTo, expecting}
+pub use Rattle.thread_session.specs.Keeping.{IsStarvedTo}
 pub use Rattle.thread_session.specs.Prospects.{CanCome}
 pub use Rattle.thread_session.specs.SessionView.{IsFresh, SessionView}
 pub use Rattle.thread_session.specs.Stands.{IsReady, Stands, to_come}

@@ -40,8 +40,7 @@ fn make_calls<S: Source>(
         (seen_of session.new (notes h.new) calls.now replies.new (is_err result)) }
 {
     for call in calls {
-        let reply = session.call(book, call, h)?;
-        replies.push(&reply)?;
+        session.call_into(book, call, h, replies)?;
     }
     Ok(())
 }

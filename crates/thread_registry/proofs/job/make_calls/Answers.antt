@@ -1,25 +1,24 @@
-use Rattle.thread_registry.proofs.Words.{rules, refl, get_or, Register}
-use Rattle.thread_registry.proofs.Going.{begun-of-part, going-more, going-cut, going-end, refused-of, refused-to-of-cut}
+use Rattle.thread_registry.proofs.Words.{rules, refl, get_or, follows_reply, Register}
+use Rattle.thread_registry.proofs.Going.{going-more, going-cut, going-end}
 use Rattle.thread_registry.proofs.job.make_calls.Goals as goal
 
 pub loop-call-preserved : goal.loop-call-preserved
 loop-call-preserved g c =
-    going-more _ _ _ _ _ (get_or c.args.calls.now c.loop-call.call-index Register) c.in_ok-reply.reply c.loop-call.invariant (search rules) (search rules)
-    (record { shape = c.call.ensures.shape; ready = c.call.ensures.ready; faults = c.call.ensures.faults; grown = c.call.ensures.grown; faulty = c.in_ok-reply.ensures.faulty; follows = λ a s. (c.in_ok-reply.ensures.stands a s, c.in_ok-reply.ensures.reply a s, c.in_ok-reply.ensures.notes a s); towards = c.in_ok-reply.ensures.towards })
-    refl refl (search rules)
+    let all = c.call_into.ensures in
+    let made = c.in_ok-call_into.ensures in
+    let reply = made.replied.0 in
+    let replied = made.replied.2 in
+    going-more _ _ _ _ _ (get_or c.args.calls.now c.loop-call.call-index Register) reply c.loop-call.invariant (search rules) (search rules)
+    (record { shape = all.shape; ready = all.ready; faults = all.faults; grown = all.grown; faulty = replied.faulty; follows = λ a s. (made.stands a s, follows_reply _ _ _ _ _ _ _ a replied.follows s, made.notes a s); towards = replied.towards })
+    refl refl made.replied.1
 
-pub returns-in_err-reply : goal.returns-in_err-reply
-returns-in_err-reply g c =
+pub returns-in_err-call_into : goal.returns-in_err-call_into
+returns-in_err-call_into g c =
+    let all = c.call_into.ensures in
+    let refused = c.in_err-call_into.ensures in
     going-cut _ _ _ _ _ (get_or c.args.calls.now c.loop-call.call-index Register) c.loop-call.invariant (search rules) (search rules)
-    (record { shape = c.call.ensures.shape; ready = c.call.ensures.ready; faults = c.call.ensures.faults; grown = c.call.ensures.grown; part = λ a s. begun-of-part _ _ _ (c.in_err-reply.ensures.part a s); towards = λ left h. refused-to-of-cut _ _ _ _ left (c.in_err-reply.ensures.cut_to left h) })
-    refl (search rules) refl
-
-pub returns-in_err-push : goal.returns-in_err-push
-returns-in_err-push g c =
-    going-cut _ _ _ _ _ (get_or c.args.calls.now c.loop-call.call-index Register) c.loop-call.invariant (search rules) (search rules)
-    (refused-of _ _ _ _ c.in_ok-reply.reply
-    (record { shape = c.call.ensures.shape; ready = c.call.ensures.ready; faults = c.call.ensures.faults; grown = c.call.ensures.grown; faulty = c.in_ok-reply.ensures.faulty; follows = λ a s. (c.in_ok-reply.ensures.stands a s, c.in_ok-reply.ensures.reply a s, c.in_ok-reply.ensures.notes a s); towards = c.in_ok-reply.ensures.towards }))
-    refl (search rules) (search rules)
+    (record { shape = all.shape; ready = all.ready; faults = all.faults; grown = all.grown; part = refused.begun; towards = refused.starved })
+    refl (search rules) refused.err
 
 pub returns : goal.returns
 returns g c = going-end _ _ _ _ c.loop-call.invariant (search rules)
