@@ -1,4 +1,5 @@
 pub mod Amounts
+pub mod AtHand
 pub mod Bounds
 pub mod ByteTables
 pub mod CommonLines

@@ -18,12 +18,12 @@ coming-over : (v : ReaderView) → v.over ≡ true → coming v ≡ Some nothing
 unfolding coming
 coming-over v over = rw over refl
 
-coming-on : (v : ReaderView) → v.over ≡ false → coming v ≡ option_map (λ (t : Tape). comes v t.ending t.bytes) (tape_of v)
+pub coming-on : (v : ReaderView) → v.over ≡ false → coming v ≡ option_map (λ (t : Tape). comes v t.ending t.bytes) (tape_of v)
 unfolding coming
 coming-on v on = rw on refl
 
 -- what is to come of a tape
-coming-told : (v : ReaderView) (t : Tape) → tape_of v ≡ Some t → coming v ≡ Some (comes v t.ending t.bytes)
+pub coming-told : (v : ReaderView) (t : Tape) → tape_of v ≡ Some t → coming v ≡ Some (comes v t.ending t.bytes)
 coming-told v t e = go v.over refl
   where
     go : (b : Bool) → v.over ≡ b → coming v ≡ Some (comes v t.ending t.bytes)

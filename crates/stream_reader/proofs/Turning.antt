@@ -1,6 +1,6 @@
 -- What a line, a piece or the end of the source says of what is to come.
 use Rattle.stream_reader.proofs.Words.{◌≡◌, ◌∙◌, ◌+◌, ◌<◌, ◌≤◌, ◌++◌, ◌∷◌, ℕ, Bool, true, false, List, [], length, take, drop, refl, sym, ap, arith}
-use Rattle.stream_reader.proofs.Words.{append_assoc, Option, Some, None, Result, Ok, Err, IfSome, inl, inr, ◌⊎◌, IfNone, if◌then◌else◌, is_some}
+use Rattle.stream_reader.proofs.Words.{append_assoc, Option, Some, None, Result, Ok, Err, IfSome, inl, inr, ◌⊎◌, IfNone, if◌then◌else◌}
 use Rattle.stream_reader.proofs.Words.{unwrap_or, option_and_then, option_map, le-ltb, nat_tests, append-nil, take_all, Fault, Tape, Failed, Ending}
 use Rattle.stream_reader.proofs.Words.{Judgement, Next, IsOneLine, Line, is_last_line, tape_lines, judged, after, joined, occurs_on, Closes, GoesOn}
 use Rattle.stream_reader.proofs.Words.{ReaderView, SourceView, Takes, answers_from, before_rest, comes, follows, has_answer, is_last, nothing}
@@ -27,10 +27,10 @@ comes-over v e more over = rw over refl
 -- ---- a whole line
 
 -- what the bytes held say, if their first line was judged so
-abbrev Says : ReaderView → ℕ → Judgement → Type 0
+abbrev pub Says : ReaderView → ℕ → Judgement → Type 0
 Says v n j = (e : Ending) (more : List ℕ) → comes v e more ≡ joined v.start.number j (occurs_on e (after v.start (line_at v n true) j) (drop (n + 1) v.held ++ more))
 
-first-line : (v : ReaderView) (n : ℕ) → v.over ≡ false → FindsNewline v.held (Some n) → Says v n (judged v.start (line_at v n true))
+pub first-line : (v : ReaderView) (n : ℕ) → v.over ≡ false → FindsNewline v.held (Some n) → Says v n (judged v.start (line_at v n true))
 first-line v n on w = λ e more.
     comes-open v e more on ∙ ap (λ bs. occurs_on e v.start (bs ++ more)) w.2
     ∙ ap (occurs_on e v.start) (append_assoc (take n v.held) (10 ∷ drop (n + 1) v.held) more)

@@ -1,6 +1,6 @@
 //! Readers: a piece of the source, and the lines in it.
 ghost use Rattle.std.specs.Prelude.{◌≡◌, ◌<◌, ◌≤◌, ◌+◌, ◌-◌, ◌++◌, take, drop, length, Option, Some, None, IfSome, IfNone, IfOk, OnErr};
-ghost use Rattle.std.specs.Prelude.{Bool, true, false, [], Result, is_some};
+ghost use Rattle.std.specs.Prelude.{Bool, true, false, ℕ, List, [], Result, is_some};
 ghost use Rattle.std.specs.Option.{option_map};
 ghost use Rattle.papi_base.specs.Numerals.{flag_bit};
 ghost use Rattle.papi_base.specs.Outside.{Rose};
@@ -12,7 +12,7 @@ use crate::line::{Judgement, LineStart, begins_skipped, is_next_stamp, is_within
 use crate::newline::line_len;
 use crate::next::Next;
 use crate::piece::{fill, move_rest};
-use papi_base::{Failed, LineCause, Source};
+use papi_base::{Failed, LineCause, Occ, Source};
 use std::marker::Model;
 
 /// Gives the occurrences of a source one by one, with no memory but its own.
@@ -64,13 +64,14 @@ fn answer_of(number: u64, judgement: &Judgement) -> Option<Next>
 }
 
 impl<S: Source> StreamReader<S> {
+    ghost use Rattle.papi_base.specs.declared.outside.Ending.{Ending};
     ghost use Rattle.papi_base.specs.declared.outside.Ending.TheVariants.{End};
     ghost use Rattle.stream_reader.specs.declared.line.Judgement.TheVariants.{Occurs, Skipped};
     ghost use Rattle.stream_reader.specs.Lines.{IsOneLine};
     ghost use Rattle.stream_reader.specs.Judged.{judged};
     ghost use Rattle.stream_reader.specs.Occurs.{occurs_of};
-    ghost use Rattle.stream_reader.specs.Reader.{ReaderView, Gave, IsWithinLimits, NextGives, Takes, coming, faults_of, has_answer, is_last};
-    ghost use Rattle.stream_reader.specs.Reader.{new_view, nothing, tape_of};
+    ghost use Rattle.stream_reader.specs.Reader.{ReaderView, Gave, GaveNothing, GaveOne, IsWithinLimits, NextGives, Takes, comes, coming};
+    ghost use Rattle.stream_reader.specs.Reader.{faults_of, has_answer, is_last, new_view, nothing, tape_of};
     ghost use Rattle.stream_reader.specs.CommonLines.{HoldsLine};
     ghost use Rattle.stream_reader.specs.Inside.{FindsNewline, Refills, TakesLine, Turns, left_of, line_at};
 
@@ -311,7 +312,60 @@ impl<S: Source> StreamReader<S> {
         self.take_piece()
     }
 
-    /// The next occurrence, or why there is none.
+    /// The next occurrence, if its line is whole and of the common form. If it is not, nothing changes.
+    #[inline(always)]
+    pub fn next_common(&mut self) -> Option<Occ>
+        ensures told { IfSome result
+            (λ o. NextGives (coming self.old) (Next.Occ o) (coming self.new)) }
+        ensures takes { IfSome result (λ o. Takes self.old (Next.Occ o) self.new) }
+        ensures counts { IfSome result (λ o. GaveOne self.old.start o self.new.start) }
+        ensures within { IsWithinLimits self.new }
+        ensures over { self.new.over ≡ self.old.over }
+        ensures ended { self.old.over ≡ true → result ≡ None }
+        ensures source { self.new.source ≡ self.old.source }
+        ensures asked { IfSome result (λ _. self.new.asked ≡ true) }
+        ensures none { IfNone result (self.new ≡ self.old) }
+    {
+        if self.over {
+            return None;
+        }
+        let line = self.common_line()?;
+        self.asked = true;
+        let _answer = self.take_judged(line.size, true, &Judgement::Occurs(line.occ));
+        Some(line.occ)
+    }
+
+    /// Passes the next line over if it is whole, and a comment or empty. If it is not, nothing changes.
+    #[inline(always)]
+    pub fn pass_skipped(&mut self) -> bool
+        ensures coming { coming self.new ≡ coming self.old }
+        ensures told_or_not { (e : Ending) (more : List ℕ)
+            → comes self.new e more ≡ comes self.old e more }
+        ensures counts { GaveNothing self.old.start self.new.start }
+        ensures within { IsWithinLimits self.new }
+        ensures over { self.new.over ≡ self.old.over }
+        ensures ended { self.old.over ≡ true → result ≡ false }
+        ensures at_hand { has_answer self.old ≡ true → has_answer self.new ≡ true }
+        ensures source { self.new.source ≡ self.old.source }
+        ensures asked { result ≡ true → self.new.asked ≡ true }
+        ensures fewer { result ≡ true → length self.new.held < length self.old.held }
+        ensures not { result ≡ false → self.new ≡ self.old }
+    {
+        if self.over {
+            return false;
+        }
+        match self.skipped_line() {
+            Some(size) => {
+                self.asked = true;
+                let _answer = self.take_judged(size, true, &Judgement::Skipped);
+                true
+            }
+            None => false,
+        }
+    }
+
+    /// The next occurrence, or why there is none. It stays out of line, and leaves the registers to `next_common`.
+    #[inline(never)]
     pub fn next(&mut self) -> Next
         ensures told { NextGives (coming self.old) result (coming self.new) }
 
