@@ -1,3 +1,4 @@
+pub mod PassedOver
 pub mod Possible
 pub mod Runs
 pub mod Outcomes

@@ -47,6 +47,16 @@ impl<S: Source> Session<S> {
         let mut notes = 0;
         let mut ended = Ended::Going;
         while consumed < n {
+            if let Some(o) = self.reader.next_common() {
+                let taken = self.core.take(&o);
+                consumed += 1;
+                notes += u64::from(taken.passed.len());
+                deliver(h, thread, &taken, &o)?;
+                continue;
+            }
+            if self.reader.pass_skipped() {
+                continue;
+            }
             match self.reader.next() {
                 Next::Occ(o) => {
                     let taken = self.core.take(&o);
