@@ -364,8 +364,7 @@ impl<S: Source> StreamReader<S> {
         }
     }
 
-    /// The next occurrence, or why there is none. It stays out of line, and leaves the registers to `next_common`.
-    #[inline(never)]
+    /// The next occurrence, or why there is none.
     pub fn next(&mut self) -> Next
         ensures told { NextGives (coming self.old) result (coming self.new) }
 

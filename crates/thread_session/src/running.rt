@@ -1,11 +1,13 @@
 //! Runs: a session consumes occurrences of its stream.
-ghost use Rattle.std.specs.Prelude.{◌≡◌, ◌++◌, IfOk, OnErr, OnOk};
+ghost use Rattle.std.specs.Prelude.{◌≡◌, ◌≤◌, ◌++◌, IfOk, OnErr, OnOk, Some, is_some, true};
 ghost use Rattle.overflow_dispatch.specs.Notes.{Grown, PartAdded};
+ghost use Rattle.papi_base.specs.Outside.{Rose};
 ghost use Rattle.papi_base.specs.Streams.{Coming};
 ghost use Rattle.session_model.specs.Account.{Account};
 ghost use Rattle.session_model.specs.Step.{step};
 ghost use Rattle.call_type.specs.declared.call.Call.TheVariants.{Run};
 ghost use Rattle.session_model.specs.declared.reply.Ended.TheVariants as ended;
+ghost use Rattle.stream_reader.specs.Reader.{Gave, IsWithinLimits, NextGives, Takes, coming, faults_of, is_last};
 
 use crate::delivery::deliver;
 use crate::session::Session;
@@ -14,7 +16,25 @@ use papi_base::Source;
 use postfix_rules::PresetBook;
 use session_model::{Ended, Ran};
 use std::alloc::AllocError;
-use stream_reader::Next;
+use stream_reader::{Next, StreamReader};
+
+// What comes next of no common form. It stays out of line, and leaves the registers to the lines that come most.
+#[inline(never)]
+fn next_other<S: Source>(reader: &mut StreamReader<S>) -> Next
+    ensures told { NextGives (coming reader.old) result (coming reader.new) }
+    ensures takes { Takes reader.old result reader.new }
+    ensures counts { Gave reader.old.start (Some result) reader.new.start }
+    ensures within { IsWithinLimits reader.new }
+    ensures over { is_last result ≡ true → reader.new.over ≡ true }
+    ensures ended { reader.old.over ≡ true → (result ≡ Next.End)
+        × (reader.new ≡ record reader.old { asked = true }) }
+    ensures kept { is_some reader.new.source ≡ is_some reader.old.source }
+    ensures faults { faults_of reader.old ≤ faults_of reader.new }
+    ensures failed { result ≡ Next.ReadFault
+        → Rose (faults_of reader.old) (faults_of reader.new) }
+{
+    reader.next()
+}
 
 impl<S: Source> Session<S> {
     ghost use Rattle.thread_session.specs.Faults.{FaultsKept, FaultsRose, fault_count};
@@ -57,7 +77,7 @@ impl<S: Source> Session<S> {
             if self.reader.pass_skipped() {
                 continue;
             }
-            match self.reader.next() {
+            match next_other(&mut self.reader) {
                 Next::Occ(o) => {
                     let taken = self.core.take(&o);
                     consumed += 1;
