@@ -1,4 +1,5 @@
 pub mod Numbered
 pub mod Parts
 pub mod Bodies
+pub mod Shown
 pub use Rattle.session_model.specs.World

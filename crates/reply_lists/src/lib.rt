@@ -8,6 +8,8 @@ pub mod kept;
 mod pushing;
 mod reading;
 pub mod replies;
+pub mod shown;
 
 pub use events::EventList;
 pub use replies::Replies;
+pub use shown::Shown;
