@@ -13,5 +13,6 @@ pub mod work;
 pub use job::Job;
 pub use opened::Opened;
 pub use registry::Registry;
-pub use runner::{Plan, PlanLine, Planned, ReplyLine, ReplyLines, RunResult, run_plan};
+pub use reply_lists::Shown;
+pub use runner::{LineHead, Plan, PlanLine, Planned, ReplyLine, ReplyLines, RunResult, run_plan};
 pub use work::work_all;

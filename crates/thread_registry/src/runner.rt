@@ -11,7 +11,7 @@ pub mod result;
 mod run;
 mod works;
 
-pub use lines::ReplyLines;
+pub use lines::{LineHead, ReplyLines};
 pub use plan::{Plan, PlanLine, Planned};
 pub use result::{ReplyLine, RunResult};
 pub use run::run_plan;

@@ -1,11 +1,12 @@
 //! Lines with their replies, each of which stays in the list of its thread.
-ghost use Rattle.std.specs.Prelude.{◌≡◌, ◌<◌, All, Some, length, map, slice_get};
+ghost use Rattle.std.specs.Prelude.{◌≡◌, ◌<◌, All, IfSome, Some, length, map, slice_get};
+ghost use Rattle.reply_lists.specs.Shown.{IsShownOf};
 ghost use Rattle.thread_registry.specs.Answers.{AllAnswered, IsAnswered, answer_of, line_of};
 
 use crate::runner::result::ReplyLine;
 use call_type::CallName;
 use papi_base::{Code, EventRef};
-use reply_lists::Replies;
+use reply_lists::{Replies, Shown};
 use session_model::{Body, Ended, Reply};
 use std::marker::Model;
 
@@ -26,6 +27,14 @@ pub struct AnsweredLine {
     pub thread: u32,
     pub word: CallName,
     pub answer: Answer,
+}
+
+/// What of a line stands before its reply: the number of its script line from 1, its thread, and the name of its call.
+#[derive(Clone, Copy)]
+pub struct LineHead {
+    pub line: u64,
+    pub thread: u32,
+    pub word: CallName,
 }
 
 /// A reply that is the code alone.
@@ -112,6 +121,35 @@ impl ReplyLines {
             thread: line.thread,
             word: line.word,
             reply: reply_of(self.replies.as_slice(), line),
+        }
+    }
+
+    /// What stands before the reply of the line at a place that is there.
+    #[inline(always)]
+    pub fn head_at(&self, i: usize) -> LineHead
+        requires place { i < length self.now }
+        ensures line { option_map (λ l. l.line) (slice_get self.now i) ≡ Some result.line }
+        ensures thread { option_map (λ l. l.thread) (slice_get self.now i) ≡ Some result.thread }
+        ensures word { option_map (λ l. l.word) (slice_get self.now i) ≡ Some result.word }
+    {
+        let line = &self.lines[i];
+        LineHead {
+            line: line.line,
+            thread: line.thread,
+            word: line.word,
+        }
+    }
+
+    /// What is shown of the reply of the line at a place that is there.
+    #[inline(always)]
+    pub fn shown_at(&self, i: usize) -> Shown<'_>
+        requires place { i < length self.now }
+        ensures shown { IfSome (slice_get self.now i) (λ l. IsShownOf result l.reply) }
+    {
+        let line = &self.lines[i];
+        match line.answer {
+            Answer::Made(place) => self.replies[line.thread as usize].shown_at(place),
+            _ => Shown::Other,
         }
     }
 
