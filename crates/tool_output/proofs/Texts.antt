@@ -2,6 +2,11 @@
 use Rattle.tool_output.proofs.Words.{◌≡◌, ◌∙◌, ◌≤◌, ◌+◌, ◌-◌, ◌∷◌, ◌++◌, ℕ, zero, suc, Bool, true, false, List, [], Some, cond, drop, filter, length}
 use Rattle.tool_output.proofs.Words.{map, min, take, sym, ap, arith, append_assoc, append-nil, drop_all, map-append, map-id, take_all}
 use Rattle.tool_output.proofs.Words.{flat_map-append, filter_of_map_range_with_len_more, bit_at, range_with_len, drop_at, take_at}
+use Rattle.std.proofs.Common.{refl, subst}
+use Rattle.tool_output.proofs.Words.{drop-set, set, ◌<◌}
+use Rattle.std.proofs.lemmas.Str.{IsUtf8-append, IsUtf8-from_ascii}
+use Rattle.std.proofs.lemmas.Str.Ascii.{IsAscii-cons}
+use Rattle.std.specs.Str.{IsAscii, IsUtf8}
 use Rattle.std.specs.Prelude.{◌==◌, slice_get, zip}
 use Rattle.tool_output.specs.Replies.{Text, members_below, spaced}
 
@@ -43,27 +48,84 @@ item_pushed f xs i x start line after h so_far more =
 pub items_pushed : {X : Type 0} (f : X → Text) (xs : List X) (i : ℕ) (start after : Text) → length xs ≤ i → after ≡ start ++ spaced (map f (take i xs)) → after ≡ start ++ spaced (map f xs)
 items_pushed f xs i start after all so_far = so_far ∙ ap (λ ys. start ++ spaced (map f ys)) (take_all i xs all)
 
--- ---- the items of a list, from the last one on
+-- ---- the items of a list, from the last one on, before a tail
 
 -- no item is gathered
-pub none_before : {X : Type 0} (f : X → Text) (xs : List X) → [] ≡ spaced (map f (drop (length xs - 0) xs))
+pub none_before : {X : Type 0} (f : X → Text) (xs : List X) (tail : Text) → tail ≡ spaced (map f (drop (length xs - 0) xs)) ++ tail
 unfolding spaced
-none_before {X = X} f xs = sym (ap (λ (ys : List X). spaced (map f ys)) (drop_all (length xs - 0) xs (omega arith)))
+none_before {X = X} f xs tail = sym (ap (λ (ys : List X). spaced (map f ys) ++ tail) (drop_all (length xs - 0) xs (omega arith)))
 
 -- one item more is gathered
-pub one_before : {X : Type 0} (f : X → Text) (xs : List X) (done i : ℕ) (x : X) (rest after : Text) → slice_get xs i ≡ Some x → i + 1 ≡ length xs - done
-    → rest ≡ spaced (map f (drop (length xs - done) xs)) → after ≡ 32 ∷ (f x ++ rest) → after ≡ spaced (map f (drop (length xs - (done + 1)) xs))
+pub one_before : {X : Type 0} (f : X → Text) (xs : List X) (done i : ℕ) (x : X) (tail rest after : Text) → slice_get xs i ≡ Some x → i + 1 ≡ length xs - done
+    → rest ≡ spaced (map f (drop (length xs - done) xs)) ++ tail → after ≡ 32 ∷ (f x ++ rest) → after ≡ spaced (map f (drop (length xs - (done + 1)) xs)) ++ tail
 unfolding spaced
-one_before f xs done i x rest after at next so_far more =
+one_before f xs done i x tail rest after at next so_far more =
     let here : length xs - (done + 1) ≡ i = omega (arith, next) in
     let from_here : drop (length xs - (done + 1)) xs ≡ x ∷ drop (length xs - done) xs = ap (λ (k : ℕ). drop k xs) here ∙ drop_at xs i x at ∙ ap (λ (k : ℕ). x ∷ drop k xs) next in
-    more ∙ ap (λ (t : Text). 32 ∷ (f x ++ t)) so_far ∙ sym (ap (λ ys. spaced (map f ys)) from_here)
+    more ∙ ap (λ (t : Text). 32 ∷ (f x ++ t)) so_far
+    ∙ ap (λ (t : Text). 32 ∷ t) (sym (append_assoc (f x) (spaced (map f (drop (length xs - done) xs))) tail))
+    ∙ sym (ap (λ ys. spaced (map f ys) ++ tail) from_here)
 
 -- all items are gathered
-pub all_before : {X : Type 0} (f : X → Text) (xs : List X) (done : ℕ) (rest : Text) → length xs ≤ done → rest ≡ spaced (map f (drop (length xs - done) xs)) → rest ≡ spaced (map f xs)
-all_before f xs done rest all so_far =
+pub all_before : {X : Type 0} (f : X → Text) (xs : List X) (done : ℕ) (tail rest : Text) → length xs ≤ done → rest ≡ spaced (map f (drop (length xs - done) xs)) ++ tail
+    → rest ≡ spaced (map f xs) ++ tail
+all_before f xs done tail rest all so_far =
     let start : length xs - done ≡ 0 = omega (arith, all) in
-    so_far ∙ ap (λ (k : ℕ). spaced (map f (drop k xs))) start
+    so_far ∙ ap (λ (k : ℕ). spaced (map f (drop k xs)) ++ tail) start
+
+-- ---- a text before another
+
+-- a space and a word
+pub word_before : (word rest all : Text) → all ≡ 32 ∷ (word ++ rest) → IsUtf8 word → IsUtf8 rest → IsUtf8 all
+word_before word rest all is w r =
+    subst IsUtf8 (sym is) (IsUtf8-append (32 ∷ []) (word ++ rest) (IsUtf8-from_ascii (32 ∷ []) (IsAscii-cons 32 [] (omega arith) (λ i. omega arith))) (IsUtf8-append word rest w r))
+
+-- what stands before the results
+pub head_joined : (line thread word code tail at_code at_word at_thread at_line : Text) → at_code ≡ 32 ∷ (code ++ tail) → at_word ≡ 32 ∷ (word ++ at_code) → at_thread ≡ 32 ∷ (thread ++ at_word) → at_line ≡ line ++ at_thread
+    → at_line ≡ line ++ (spaced (thread ∷ word ∷ code ∷ []) ++ tail)
+unfolding spaced
+head_joined line thread word code tail at_code at_word at_thread at_line a b c d = rw (d, c, b, a) (simp append_assoc)
+
+-- the whole line of a reply, its results before a newline
+pub line_before : (line thread word code : Text) (results : List Text) (tail all : Text) → tail ≡ spaced results ++ 10 ∷ [] → all ≡ line ++ (spaced (thread ∷ word ∷ code ∷ []) ++ tail)
+    → all ≡ line ++ (spaced (thread ∷ word ∷ []) ++ (spaced (code ∷ results) ++ 10 ∷ []))
+line_before line thread word code results tail all t a = a ∙ ap (λ (x : Text). line ++ x) (ap (λ (x : Text). spaced (thread ∷ word ∷ code ∷ []) ++ x) t ∙ joined)
+  where
+    joined : spaced (thread ∷ word ∷ code ∷ []) ++ (spaced results ++ 10 ∷ []) ≡ spaced (thread ∷ word ∷ []) ++ (spaced (code ∷ results) ++ 10 ∷ [])
+    joined =
+        ap (λ (x : Text). x ++ (spaced results ++ 10 ∷ [])) (spaced-append (thread ∷ word ∷ []) (code ∷ []))
+        ∙ append_assoc (spaced (thread ∷ word ∷ [])) (spaced (code ∷ [])) (spaced results ++ 10 ∷ [])
+        ∙ ap (λ (x : Text). spaced (thread ∷ word ∷ []) ++ x)
+        (sym (append_assoc (spaced (code ∷ [])) (spaced results) (10 ∷ [])) ∙ ap (λ (x : Text). x ++ 10 ∷ []) (sym (spaced-append (code ∷ []) results)))
+
+-- no results
+pub no_results : (tail : Text) → tail ≡ 10 ∷ [] → tail ≡ spaced [] ++ 10 ∷ []
+unfolding spaced
+no_results tail is = is
+
+-- two results
+pub two_results : (first second at_second at_first tail : Text) → tail ≡ 10 ∷ [] → at_second ≡ 32 ∷ (second ++ tail) → at_first ≡ 32 ∷ (first ++ at_second) → at_first ≡ spaced (first ∷ second ∷ []) ++ 10 ∷ []
+two_results first second at_second at_first tail t b a = rw (a, b, t, spaced_two first second) (simp append_assoc)
+
+-- what stands before the results, then the results, then a newline
+pub line_after : (start line thread word code : Text) (results : List Text) (tail head first second after : Text) → tail ≡ [] → head ≡ line ++ (spaced (thread ∷ word ∷ code ∷ []) ++ tail)
+    → first ≡ start ++ head → second ≡ first ++ spaced results → after ≡ second ++ 10 ∷ [] → after ≡ start ++ (line ++ (spaced (thread ∷ word ∷ []) ++ (spaced (code ∷ results) ++ 10 ∷ [])))
+line_after start line thread word code results tail head first second after t h a b n =
+    let whole : after ≡ start ++ (line ++ (spaced (thread ∷ word ∷ code ∷ []) ++ (spaced results ++ 10 ∷ []))) = rw (n, b, a, h, t) (simp (append_assoc, append-nil)) in
+    whole ∙ ap (λ (x : Text). start ++ x) (line_before line thread word code results (spaced results ++ 10 ∷ []) _ refl refl)
+
+-- a space is written before what stands at a place
+pub space_before : (bytes : Text) (at : ℕ) (more : Text) → 0 < at → at ≤ length bytes → drop at bytes ≡ more → drop (at - 1) (set bytes (at - 1) 32) ≡ 32 ∷ more
+space_before bytes at more low high is =
+    let back : at - 1 + 1 ≡ at = omega (arith, low) in
+    drop-set bytes (at - 1) 32 (omega (arith, low, high)) ∙ ap (λ (k : ℕ). 32 ∷ drop k bytes) back ∙ ap (λ (t : Text). 32 ∷ t) is
+
+-- a newline is written at the last place
+pub newline_last : (bytes : Text) (last : ℕ) → length bytes ≡ last + 1 → drop last (set bytes last 10) ≡ 10 ∷ []
+newline_last bytes last size = drop-set bytes last 10 (omega (arith, size)) ∙ ap (λ (t : Text). 10 ∷ t) (drop_all (last + 1) bytes (omega (arith, size)))
+
+pub newline_ascii : (bytes : Text) (last : ℕ) → length bytes ≡ last + 1 → IsAscii (drop last (set bytes last 10))
+newline_ascii bytes last size = subst IsAscii (sym (newline_last bytes last size)) (IsAscii-cons 10 [] (omega arith) (λ i. omega arith))
 
 -- ---- the pairs of two lists
 
@@ -122,7 +184,3 @@ parts_pushed start first mid after text xs ys a b c =
 pub reply_joined : (start code head after : Text) (texts : List Text) → head ≡ start ++ 32 ∷ code → after ≡ head ++ spaced texts → after ≡ start ++ spaced (code ∷ texts)
 unfolding spaced
 reply_joined start code head after texts a b = rw (b, a) (simp append_assoc)
-
-pub line_joined : (start line thread word reply head mid after : Text) → head ≡ start ++ (line ++ (32 ∷ (thread ++ (32 ∷ word)))) → mid ≡ head ++ reply → after ≡ mid ++ 10 ∷ []
-    → after ≡ start ++ (line ++ (spaced (thread ∷ word ∷ []) ++ (reply ++ 10 ∷ [])))
-line_joined start line thread word reply head mid after a b c = rw (c, b, a, spaced_two thread word) (simp append_assoc)
