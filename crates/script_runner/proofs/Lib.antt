@@ -1,3 +1,4 @@
 pub mod Pieces
 pub mod PlannedLines
 pub mod Words
+mod ShownLines
