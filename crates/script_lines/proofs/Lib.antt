@@ -2,4 +2,6 @@ pub mod CallLemmas
 pub mod Examples
 pub mod LineCuts
 pub mod Reading
+pub mod ShortLines
+pub mod ShortNumbers
 pub mod Splits

@@ -6,5 +6,6 @@ pub mod Causes
 pub mod Kept
 pub mod Lines
 pub mod Scripts
+pub mod ShortLines
 pub mod Words
 pub use Rattle.table_rows.specs.Texts

@@ -6,6 +6,7 @@ mod asked;
 pub mod fault;
 mod line;
 pub mod script;
+mod short;
 mod words;
 
 pub use arguments::one_number;

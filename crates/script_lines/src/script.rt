@@ -6,6 +6,7 @@ ghost use Rattle.script_lines.specs.Scripts.{ReadsScript};
 
 use crate::fault::{ScriptFault, fault_at};
 use crate::line::{call_line, cut_line, is_skipped};
+use crate::short::short_line;
 use call_type::Asked;
 use papi_base::Text;
 use std::alloc::Global;
@@ -64,11 +65,17 @@ pub fn read_script(alloc: Global, bytes: &[u8]) -> Result<Script, ScriptFault>
     let mut rest = bytes;
     let mut number = 0;
     while rest.len() > 0 {
+        number += 1;
+        let above = lines.len();
+        if let Some(short) = short_line(number, above, rest) {
+            rest = &rest[short.size..];
+            lines.push(short.line)?;
+            continue;
+        }
         let (line, after) = cut_line(rest);
         rest = after;
-        number += 1;
         if !is_skipped(line) {
-            match call_line(alloc, number, lines.len(), line) {
+            match call_line(alloc, number, above, line) {
                 Ok(line) => lines.push(line)?,
                 Err(refusal) => return Err(fault_at(number, refusal)),
             }
