@@ -159,15 +159,10 @@ planned-next catalog items script i l plan plan' asked planned codes codes' h e 
     subst (λ done. IsPlanned catalog done plan' codes') (sym (next-done items i l h e)) (subst (λ p. IsPlanned catalog (take i items ++ l ∷ []) p codes') (sym pushed)
     (planned-more catalog (take i items) l plan asked planned codes codes' (thread-at items script i l h e same all) is good joined looked so_far))
 
--- some of the first mentions have codes, if a line's own mention has none yet, and if it has one
+-- some of the first mentions have codes, if a line's own mention has none yet
 pub begun-before : (catalog : CatalogView) (items script : List ScriptLine) (i : ℕ) (codes : List Native) → items ≡ script → codes ≡ mentioned_in (map (line_of catalog) (take i items)) → AreFirstOf (mentioned_in (lines_of catalog script)) codes
 begun-before catalog items script i codes same is =
     subst (λ ls. AreFirstOf (mentioned_in (lines_of catalog ls)) codes) same (subst (AreFirstOf (mentioned_in (lines_of catalog items))) (sym is) (begun-at catalog items i))
-
-pub begun-after : (catalog : CatalogView) (items script : List ScriptLine) (i : ℕ) (l : ScriptLine) (asked : Asked) (codes codes' : List Native) → i < length items → l ≡ get_or items i l → items ≡ script
-    → asked ≡ asked_of catalog l.call → codes' ≡ joined_by codes (mentions_of asked) → codes ≡ mentioned_in (map (line_of catalog) (take i items)) → AreFirstOf (mentioned_in (lines_of catalog script)) codes'
-begun-after catalog items script i l asked codes codes' h e same is joined so_far =
-    begun-before catalog items script (i + 1) codes' same (joined ∙ ap₂ (λ ns a. joined_by ns (mentions_of a)) so_far is ∙ sym (mentioned-more catalog (take i items) l) ∙ ap (λ done. mentioned_in (map (line_of catalog) done)) (sym (next-done items i l h e)))
 
 -- ---- the whole plan
 
@@ -195,6 +190,9 @@ plan-heads catalog ls plan codes whole = heads-each ls plan whole.heads
 pub plan-codes : (catalog : CatalogView) (ls : List ScriptLine) (plan : List PlanLine) (codes : List Native) → IsPlanned catalog ls plan codes → codes ≡ mentioned_in (lines_of catalog ls)
 unfolding lines_of
 plan-codes catalog ls plan codes whole = whole.mentioned
+
+pub begun-none : (natives codes : List Native) → codes ≡ [] → AreFirstOf natives codes
+begun-none natives codes e = (natives, ap (λ ns. ns ++ natives) (sym e))
 
 pub all-begun : (natives codes : List Native) → codes ≡ natives → AreFirstOf natives codes
 all-begun natives codes e = ([], sym e ∙ sym (append-nil codes))

@@ -5,12 +5,14 @@ ghost use Rattle.component_table.specs.Codes.{row_codes};
 ghost use Rattle.component_table.specs.declared.native_codes.TheConstants.{MOST_MENTIONED};
 ghost use Rattle.thread_registry.specs.Plans.{event_by, planned_by};
 ghost use Rattle.postfix_rules.specs.Sameness.{joined_by};
-ghost use Rattle.script_runner.specs.Resolving.{mentions_by, setting_of};
+ghost use Rattle.script_runner.specs.Resolving.{IsGoodAsk, asked_of, mentions_by, setting_of};
 ghost use Rattle.session_model.specs.World.{mentions_of, mentions_of_call};
 ghost use Rattle.postfix_rules.specs.NativeCodes.{native_named};
 
+use crate::asking::asked_of;
 use component_table::{Catalog, NativeCodes};
 use papi_base::EventRef;
+use script_lines::Written;
 use session_model::{Asked, Call, Named};
 use std::alloc::AllocError;
 use thread_registry::Planned;
@@ -53,8 +55,8 @@ fn mention_in(call: &Call, codes: &mut NativeCodes) -> Result<(), AllocError>
     }
 }
 
-/// What a line asks for, looked up if its own mention is the last one.
-pub(crate) fn planned_of(
+// What a line asks for, looked up if its own mention is the last one.
+fn planned_of(
     catalog: &Catalog,
     asked: Asked,
     codes: &mut NativeCodes,
@@ -77,5 +79,27 @@ pub(crate) fn planned_of(
         Asked::CodeOf(Err(code)) => Ok(Planned::CodeOf(Err(code))),
         Asked::NameOf(code) => Ok(Planned::NameOf(event_of_code(catalog, code, codes))),
         Asked::Threads => Ok(Planned::Threads),
+    }
+}
+
+/// What a line of a script asks for, looked up if its own mention is the last one. Of the calls that long scripts repeat nothing is looked up.
+pub(crate) fn planned_line(
+    catalog: &Catalog,
+    written: &Written,
+    codes: &mut NativeCodes,
+) -> Result<Planned, AllocError>
+    requires few { length codes.old < MOST_MENTIONED }
+    ensures planned { IfOk result (λ planned.
+        planned ≡ planned_by (setting_of catalog.now) codes.new (asked_of catalog.now written.now)) }
+    ensures mentioned { OnOk result
+        (codes.new ≡ joined_by codes.old (mentions_of (asked_of catalog.now written.now))) }
+    ensures good { IsGoodAsk catalog.now (asked_of catalog.now written.now) }
+    ensures unchanged { OnErr result (codes.new ≡ codes.old) }
+{
+    match *written {
+        Written::Call(call_type::Call::Read { set }) => Ok(Planned::Call(Call::Read { set })),
+        Written::Call(call_type::Call::Accum { set }) => Ok(Planned::Call(Call::Accum { set })),
+        Written::Call(call_type::Call::Run { n }) => Ok(Planned::Call(Call::Run { n })),
+        _ => planned_of(catalog, asked_of(catalog, written), codes),
     }
 }

@@ -7,8 +7,7 @@ ghost use Rattle.thread_registry.specs.Runs.{reply_lines};
 ghost use Rattle.script_runner.specs.Resolving.{AreFirstOf, lines_of, mentioned_in, reply_lines_of, setting_of};
 ghost use Rattle.session_model.specs.World.{LineTold};
 
-use crate::asking::asked_of;
-use crate::planning::planned_of;
+use crate::planning::planned_line;
 use component_table::{Catalog, NativeCodes};
 use script_lines::Script;
 use std::alloc::{AllocError, Global};
@@ -34,14 +33,14 @@ pub fn resolve(
     ensures codes { OnOk result (codes.new ≡ mentioned_in (lines_of catalog.now script.now)) }
     ensures begun { AreFirstOf (mentioned_in (lines_of catalog.now script.now)) codes.new }
 {
-    let mut lines = Vec::new(alloc);
+    let mut lines = Vec::with_capacity(alloc, script.lines().len())?;
     for line in script.lines() {
-        let planned = planned_of(catalog, asked_of(catalog, &line.call), codes)?;
-        lines.push(PlanLine {
+        let planned = planned_line(catalog, &line.call, codes)?;
+        lines.push_reserved(PlanLine {
             number: line.line,
             thread: line.thread,
             planned,
-        })?;
+        });
     }
     Ok(Plan::new(lines))
 }
