@@ -13,5 +13,5 @@ returns c =
     let value = c.in_ok-value.value in
     let fits : value.value < 2 ^ 32 = omega arith in
     rw c.call_of.ensures
-    (line-of c.args.number c.args.above s called argument a b value.size c.in_ok-thread.thread.value value.value c.in_ok-word.word.name (rest-whole s a) (rest-whole called b) c.if-above-ge-MOST_CALLS.false
-    c.in_ok-thread.ensures c.if-thread-ge-THREADS.false c.in_ok-word.ensures c.in_ok-value.ensures fits c.if-argument-value-ne10.false)
+    (line-of c.args.number c.args.above s called argument a b value.size c.in_ok-thread.thread.value value.value c.in_ok-word.word.name (rest-whole s a) (rest-whole called b) (omega arith)
+    c.in_ok-thread.ensures (omega arith) c.in_ok-word.ensures c.in_ok-value.ensures fits (omega arith))
