@@ -90,7 +90,8 @@ pub(crate) fn planned_line(
 ) -> Result<Planned, AllocError>
     requires few { length codes.old < MOST_MENTIONED }
     ensures planned { IfOk result (λ planned.
-        planned ≡ planned_by (setting_of catalog.now) codes.new (asked_of catalog.now written.now)) }
+        planned ≡ planned_by (setting_of catalog.now) codes.new
+        (asked_of catalog.now written.now)) }
     ensures mentioned { OnOk result
         (codes.new ≡ joined_by codes.old (mentions_of (asked_of catalog.now written.now))) }
     ensures good { IsGoodAsk catalog.now (asked_of catalog.now written.now) }
