@@ -1,5 +1,5 @@
 -- A history is one thread's, deed by deed.
-use Rattle.std.proofs.Common.{◌≡◌, ◌∙◌, ℕ, false, true, List, [], ◌∷◌, ◌++◌, Option, Some, None, length, map, flat_map, ap, ap₂, refl, sym, subst, append-nil}
+use Rattle.std.proofs.Common.{◌≡◌, ◌∙◌, ℕ, false, List, [], ◌∷◌, ◌++◌, Option, Some, None, length, ap, ap₂, refl, sym, subst, append-nil}
 use Rattle.papi_base.specs.Streams.{Mark, Dry}
 use Rattle.papi_base.specs.declared.occurrence.Occ.{Occ}
 use Rattle.overflow_dispatch.specs.declared.handler.Note.{Note}
@@ -14,13 +14,11 @@ use Rattle.session_model.specs.Step.{StepOutcome, account_refusal, notes_to, per
 use Rattle.session_model.specs.Thresholds.{notes_over}
 use Rattle.session_model.specs.declared.reply.Ended.TheVariants as ended
 use Rattle.session_model.specs.declared.reply.Reply.{Reply}
-use Rattle.thread_core.specs.Following.{Follows}
 use Rattle.thread_core.specs.Stands.{CoreStands}
 use Rattle.thread_session.proofs.Endings.{core_at}
 use Rattle.thread_session.proofs.Outcomes.{ran_to, whole}
 use Rattle.thread_session.specs.Follows.{expecting, is_run}
 use Rattle.thread_session.specs.Happening.{Happens, occurrences, run_over}
-use Rattle.thread_session.specs.SessionView.{SessionView}
 use Rattle.thread_session.specs.declared.happening.Happening.{Happening}
 use Rattle.papi_calls.specs.Calls.{Made}
 use Rattle.papi_calls.specs.Libraries.{IsOpened, LibraryView}

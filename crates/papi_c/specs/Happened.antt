@@ -1,5 +1,5 @@
 -- Occurrences handed over from C: docs/FORMATS.md, "Occurrences as numbers".
-use Rattle.std.specs.Prelude.{ℕ, ℤ, ◌≡◌, ◌≢◌, ◌<◌, ◌≤◌, ◌+◌, ◌==◌, Bool, true, false, not, List, drop, length, map, min, negsuc, pos, take, Option}
+use Rattle.std.specs.Prelude.{ℕ, ℤ, ◌≡◌, ◌≢◌, ◌<◌, ◌≤◌, ◌+◌, ◌==◌, ◌-◌, ◌⊎◌, false, not, List, [], ◌∷◌, drop, length, map, min, negsuc, pos, take, Option}
 use Rattle.overflow_dispatch.specs.declared.handler.Note.{Note}
 use Rattle.papi_c.specs.Runs.{passing_of}
 use Rattle.papi_c.specs.Through.{Through}
@@ -51,22 +51,60 @@ pub record HasHappened (old new : LibraryView) (what : Happening) (happened : Ha
   pub catalog : new.catalog ≡ old.catalog
   pub mentioned : new.mentioned ≡ old.mentioned
 
--- this was told
-pub record Told (old new : LibraryView) (what : Occurrences) (answer : ℤ) (amount count : ℕ) (before after : List Passing) : Type 0 where
+-- what is left of it when so much has happened
+abbrev pub left_of : Occurrences → ℕ → Occurrences
+left_of what amount = record what { amount = what.amount - amount }
+
+-- what is told if all has happened and no threshold was passed
+abbrev pub AllQuiet : Happened → Type 0
+AllQuiet happened = (happened.halt ≡ halt.Done) × (happened.notes ≡ 0)
+
+-- the first of them happens to its end and passes no threshold, and so it goes on
+pub record GoesOn (old : LibraryView) (what left : Occurrences) (out : List Passing) (Rest : LibraryView → Type 0) : Type 0 where
+  pub later : LibraryView
   pub happened : Happened
+  pub has : HasHappened old later (happening_of what) happened out out
+  pub quiet : AllQuiet happened
+  pub remains : left ≡ left_of what happened.amount
+  pub rest : Rest later
+
+-- the first of them passes thresholds or does not happen to its end, so those after it stay
+pub record StopsAt (old new : LibraryView) (what left : Occurrences) (whats lefts : List Occurrences) (happened : Happened) (before after : List Passing) : Type 0 where
   pub has : HasHappened old new (happening_of what) happened before after
+  pub loud : AllQuiet happened → ⊥
+  pub remains : left ≡ left_of what happened.amount
+  pub rest : lefts ≡ whats
+
+-- nothing is left to happen
+pub record IsAll (old new : LibraryView) (happened : Happened) (before after : List Passing) : Type 0 where
+  pub same : new ≡ old
+  pub quiet : AllQuiet happened
+  pub kept : after ≡ before
+
+-- These happen one after another, up to the first that passes thresholds or does not happen to its end, if there is one. What is told is told of the last
+-- that happens.
+unfoldable pub HaveHappened : LibraryView → LibraryView → List Occurrences → List Occurrences → Happened → List Passing → List Passing → Type 0
+HaveHappened old new [] [] happened before after = IsAll old new happened before after
+HaveHappened old new [] (v ∷ vs) happened before after = ⊥
+HaveHappened old new (w ∷ ws) [] happened before after = ⊥
+HaveHappened old new (w ∷ ws) (v ∷ vs) happened before after =
+    GoesOn old w v before (λ later. HaveHappened later new ws vs happened before after) ⊎ StopsAt old new w v ws vs happened before after
+
+-- this was told
+pub record Told (old new : LibraryView) (whats lefts : List Occurrences) (answer : ℤ) (count : ℕ) (before after : List Passing) : Type 0 where
+  pub happened : Happened
+  pub have : HaveHappened old new whats lefts happened before after
   pub number : answer ≡ halt_number happened.halt
-  pub went : amount ≡ happened.amount
   pub told : count ≡ happened.notes
 
 -- nothing is written by a call on a shut handle: PAPI_ENOINIT
-pub record IsShut (answer : ℤ) (old_amount amount old_count count : ℕ) (before after : List Passing) : Type 0 where
+pub record IsShut (whats lefts : List Occurrences) (answer : ℤ) (old_count count : ℕ) (before after : List Passing) : Type 0 where
   pub number : answer ≡ negsuc 15
-  pub went : amount ≡ old_amount
+  pub left : lefts ≡ whats
   pub told : count ≡ old_count
   pub kept : after ≡ before
 
 -- the same through a handle
-abbrev pub Happens : Option LibraryView → Option LibraryView → Occurrences → ℤ → ℕ → ℕ → ℕ → ℕ → List Passing → List Passing → Type 0
-Happens old new what number was went old_told told before after =
-    Through old new (λ o n. Told o n what number went told before after) (IsShut number was went old_told told before after)
+abbrev pub Happens : Option LibraryView → Option LibraryView → List Occurrences → List Occurrences → ℤ → ℕ → ℕ → List Passing → List Passing → Type 0
+Happens old new whats lefts number old_told told before after =
+    Through old new (λ o n. Told o n whats lefts number told before after) (IsShut whats lefts number old_told told before after)
