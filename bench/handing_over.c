@@ -1,6 +1,9 @@
 /* So many occurrences of each kind that has a code are handed over to a library in which a set of three events runs, so many times: handing_over TIMES AMOUNT. It
  * calls what c/live.c calls, in place of the tool's counts. */
-#include "../c/live.h"
+#include "../c/live_thread.h"
+#include "../c/signals.h"
+#include "../c/thread.h"
+#include "papi.h"
 
 #include <stdio.h>
 #include <stdlib.h>
@@ -28,7 +31,7 @@ int main(int count, char **words) {
     const long times = atol(words[1]);
     const uint64_t amount = strtoull(words[2], NULL, 10);
     if (!begin(&set)) return 1;
-    thread_state *t = kl_known();
+    thread_state *t = kl_peek_thread();
     live.codes = kl_codes_of(&t->library);
     t->live = &live;
     for (long i = 0; i < times; i++) {

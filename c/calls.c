@@ -1,6 +1,14 @@
 /* The calls of each thread: where the outermost one enters, and where it leaves. */
-#include "internal.h"
+#include "posix.h"
+#include "calls.h"
+#include "holds.h"
+#include "live.h"
+#include "signals.h"
+#include "thread.h"
 
+#include <pthread.h>
+#include <stddef.h>
+#include <stdint.h>
 #include <unwind.h>
 
 _Thread_local kl_outside kl_calls;
@@ -49,7 +57,7 @@ static __attribute__((noinline)) int forget_if_left(const void *end) {
     if (goes_on(kl_calls.end, end)) return 0;
     const kl_outside left = kl_calls, none = { 0 };
     kl_calls = none;
-    kl_signals_were_left(kl_known());
+    kl_signals_were_left(kl_peek_thread());
     if (left.uncancelled) pthread_setcancelstate(left.cancelled_before, NULL);
     return 1;
 }

@@ -2,10 +2,13 @@
 #ifndef KL_CALLS_H
 #define KL_CALLS_H
 
+#include "errors.h"
 #include "functions.h"
-#include "state.h"
+#include "live.h"
+#include "papi.h"
+#include "thread.h"
 
-#include <stdbool.h>
+#include <stddef.h>
 
 /* What each function does, by its name. */
 #define KL_DEED(name, does) KL_##name = (does),
@@ -33,16 +36,6 @@ static inline int kl_interrupts(void) { return kl_calls.interrupting > 0; }
 /* The library's own code, by the section that c/build gives it. */
 extern const char kl_first_byte[] __asm__("__start_kistalub_code") __attribute__((weak, visibility("hidden")));
 extern const char kl_end_byte[] __asm__("__stop_kistalub_code") __attribute__((weak, visibility("hidden")));
-
-/* live.c: whether the program runs under the tool that counts it. Then the outermost call enters, and leaves. A thread's part opens with its library. The cycles are
- * the calling thread's, or those of all threads. */
-extern int kl_runs_live __attribute__((visibility("hidden")));
-static inline int kl_is_live(void) { return kl_runs_live; }
-int kl_live_opens(thread_state *t);
-void kl_live_closes(thread_state *t);
-void kl_live_enters(void);
-void kl_live_leaves(int may_start_or_stop);
-uint64_t kl_live_cycles(int of_all);
 
 void kl_call_leaves(void);
 void kl_change_enters(void);
@@ -77,7 +70,6 @@ static inline __attribute__((always_inline)) void kl_call_ends(const int *does) 
 /* Ends each function of papi.h that answers a code: one below 0 is the thread's last error, and the error handler is told of it. One that another function of the
  * library calls does not, nor one that is not of papi.h: the handler is the user's, and is called once a call and under no lock. */
 #define RETURN(code) return kl_answer(code)
-int kl_refuse(int code);
 static inline __attribute__((always_inline)) int kl_answer(int code) {
     return KL_RARELY(code < PAPI_OK) && kl_calls.end == KL_CALL_END ? kl_refuse(code) : code;
 }
@@ -85,13 +77,13 @@ static inline __attribute__((always_inline)) int kl_answer(int code) {
 /* The thread's state, or the function of papi.h ends with the code why there is none. */
 #define HERE(t) \
     int code_; \
-    thread_state *t = kl_here(&code_); \
+    thread_state *t = kl_current_thread(&code_); \
     if (!t) RETURN(code_)
 
 /* The same of a function that asks for a set by its number: a thread that has ended has no state, and `t` is NULL. */
 #define HERE_OR_PAST(t) \
     int code_; \
-    thread_state *t = kl_here(&code_); \
+    thread_state *t = kl_current_thread(&code_); \
     if (!t && !kl_is_past()) RETURN(code_)
 
 /* calls.c: around a function or a handler of the user the thread leaves its outermost call, and enters it again. A thread that the tool has stopped is in the
@@ -100,9 +92,5 @@ kl_outside kl_user_begins(void);
 void kl_user_ends(kl_outside before);
 kl_outside kl_stopped_begins(const void *end);
 void kl_stopped_ends(kl_outside before);
-
-/* errors.c */
-int kl_get_debug(PAPI_debug_option_t *debug);
-int kl_set_debug(const PAPI_debug_option_t *debug);
 
 #endif

@@ -1,7 +1,16 @@
 /* The codes of native events. A code that the program sees is the process's: 0x40000000 and the place of the event among those whose codes were
  * asked for. The library of each thread numbers by itself, and the two are matched by the event's name. */
-#include "internal.h"
+#include "posix.h"
+#include "codes.h"
+#include "events.h"
+#include "locks.h"
+#include "papi.h"
+#include "presets.h"
+#include "thread.h"
 
+#include <pthread.h>
+#include <stdatomic.h>
+#include <stdint.h>
 #include <stdlib.h>
 #include <string.h>
 

@@ -1,6 +1,19 @@
 /* Components: PAPI_get_component_info(3). */
-#include "internal.h"
+#include "posix.h"
+#include "calls.h"
+#include "codes.h"
+#include "components.h"
+#include "events.h"
+#include "limits.h"
+#include "locks.h"
+#include "options.h"
+#include "papi.h"
+#include "sets.h"
+#include "thread.h"
+#include "versions.h"
 
+#include <pthread.h>
+#include <stdint.h>
 #include <stdio.h>
 #include <string.h>
 
@@ -123,7 +136,7 @@ const PAPI_component_info_t *PAPI_get_component_info(int component) {
     CALL(PAPI_get_component_info);
     char name[PAPI_MAX_STR_LEN], pmu[PAPI_MAX_STR_LEN];
     int code;
-    thread_state *t = kl_here(&code);
+    thread_state *t = kl_current_thread(&code);
     if (!t || component < 0 || component >= MOST_COMPONENTS) return NULL;
     if (kl_component_text(t, component, KISTALUB_COMPONENT_NAME, 0, name, sizeof name) != PAPI_OK) return NULL;
     if (kl_component_text(t, component, KISTALUB_COMPONENT_PMU, 0, pmu, sizeof pmu) != PAPI_OK) return NULL;

@@ -1,6 +1,19 @@
 /* Counting: start, stop, read, accum, reset, and how time goes on. */
-#include "internal.h"
+#include "posix.h"
+#include "calls.h"
+#include "counting.h"
+#include "holds.h"
+#include "limits.h"
+#include "live.h"
+#include "papi.h"
+#include "sets.h"
+#include "signals.h"
+#include "silent.h"
+#include "streams.h"
+#include "thread.h"
+#include "watches.h"
 
+#include <stdint.h>
 #include <string.h>
 
 /* Up to n occurrences happen. If an event has a watch it is one, since what watches it comes before the next; in a program that runs under the tool what comes
@@ -44,7 +57,7 @@ int kistalub_go(uint32_t n, uint32_t *went) {
     if (!went) went = &here_went;
     *went = 0;
     if (kl_interrupts()) return PAPI_OK;
-    thread_state *t = kl_here(&code);
+    thread_state *t = kl_current_thread(&code);
     if (!t) return kl_is_past() ? PAPI_OK : code;
     return kl_go(t, n, went);
 }
@@ -55,9 +68,9 @@ int kl_goes_on(thread_state *t) {
 }
 
 /* What is asked of a set that counts. */
-typedef enum { TO_READ, TO_STOP, TO_ACCUM, TO_RESET, TO_START } asked;
+typedef enum { TO_READ, TO_STOP, TO_ACCUM, TO_RESET, TO_START } set_operation;
 
-static int call_core(kistalub *library, uint32_t set, asked what, int64_t *values, uint32_t *count) {
+static int call_core(kistalub *library, uint32_t set, set_operation what, int64_t *values, uint32_t *count) {
     int code = PAPI_OK;
     switch (what) {
     case TO_START: return kistalub_start(library, set);
@@ -69,7 +82,7 @@ static int call_core(kistalub *library, uint32_t set, asked what, int64_t *value
 }
 
 /* The answer to a handler of a signal that interrupted a call of the proved library: what was told last, as if the call was made before the other one. */
-static __attribute__((noinline)) int call_later(thread_state *t, kl_set *s, uint32_t set, asked what, int64_t *values, uint32_t *count) {
+static __attribute__((noinline)) int call_later(thread_state *t, kl_set *s, uint32_t set, set_operation what, int64_t *values, uint32_t *count) {
     if (what == TO_START) return PAPI_EISRUN;
     if (what == TO_STOP && !s->runs) return PAPI_ENOTRUN;
     *count = what == TO_RESET ? 0 : s->event_count;
@@ -85,7 +98,7 @@ static __attribute__((noinline)) int call_later(thread_state *t, kl_set *s, uint
 }
 
 /* Keeps what was told last. What a handler asked for that interrupted the call came after it. */
-static void note(const thread_state *t, kl_set *s, uint32_t set, asked what, const int64_t *values, uint32_t count) {
+static void note(const thread_state *t, kl_set *s, uint32_t set, set_operation what, const int64_t *values, uint32_t count) {
     if (what == TO_START || what == TO_STOP) s->runs = what == TO_START;
     if ((t->signals.to_stop | t->signals.to_reset) >> set & 1) return;
     if (what == TO_READ || what == TO_STOP) memcpy(s->last, values, count * sizeof *values);
@@ -93,7 +106,7 @@ static void note(const thread_state *t, kl_set *s, uint32_t set, asked what, con
 }
 
 /* Asks something of a set, which gives values or none. Inlined, what is asked is known where it is compiled. */
-static inline __attribute__((always_inline)) int ask(thread_state *owner, uint32_t set, asked what, int64_t *values, uint32_t *count) {
+static inline __attribute__((always_inline)) int ask(thread_state *owner, uint32_t set, set_operation what, int64_t *values, uint32_t *count) {
     if (set >= MOST_SETS) return PAPI_ENOEVST;
     kl_set *s = owner->sets[set];
     if (!kl_core_begins(owner)) return call_later(owner, s, set, what, values, count);
@@ -105,10 +118,10 @@ static inline __attribute__((always_inline)) int ask(thread_state *owner, uint32
     return code;
 }
 
-static int is_after_step(asked what) { return what != TO_START && what != TO_RESET; }
+static int is_after_step(set_operation what) { return what != TO_START && what != TO_RESET; }
 
 /* Asks it of a set that is not the thread's own: of one of a thread that has ended, to which nothing happens any more, or of none. */
-static __attribute__((noinline)) int ask_elsewhere(thread_state *t, int set, asked what, int64_t *values, uint32_t *count) {
+static __attribute__((noinline)) int ask_elsewhere(thread_state *t, int set, set_operation what, int64_t *values, uint32_t *count) {
     thread_state *owner = kl_owner_of(t, set);
     int code = owner == t && is_after_step(what) ? kl_goes_on(t) : PAPI_OK;
     if (owner != t && what == TO_START && !kl_was_own(owner)) code = PAPI_ENOEVST;
@@ -118,9 +131,9 @@ static __attribute__((noinline)) int ask_elsewhere(thread_state *t, int set, ask
 }
 
 /* Asks it after the step. The call is not made if the step met a fault. */
-static inline __attribute__((always_inline)) int ask_here(int set, asked what, int64_t *values, uint32_t *count) {
+static inline __attribute__((always_inline)) int ask_here(int set, set_operation what, int64_t *values, uint32_t *count) {
     int code;
-    thread_state *t = kl_here(&code);
+    thread_state *t = kl_current_thread(&code);
     *count = 0;
     if (KL_RARELY(!t) && !kl_is_past()) return code;
     if (!t || kl_set_number(t, set) == UINT32_MAX) return ask_elsewhere(t, set, what, values, count);
@@ -130,7 +143,7 @@ static inline __attribute__((always_inline)) int ask_here(int set, asked what, i
 
 /* The first start of a set with its events looks at them. It is not made if memory is refused. */
 static int judge(int set) {
-    thread_state *t = kl_known();
+    thread_state *t = kl_peek_thread();
     kl_set *s = t ? kl_set_of(t, set) : NULL;
     if (!s || s->is_judged || kl_interrupts()) return PAPI_OK;
     int code = kl_judge_events(t, kl_set_number(t, set));

@@ -1,5 +1,10 @@
 /* Devices: the modelled processor is the only one. */
-#include "internal.h"
+#include "posix.h"
+#include "calls.h"
+#include "papi.h"
+#include "process.h"
+
+#include <stddef.h>
 
 /* Where the enumeration of the thread stands: 1 after the processor was given. */
 static _Thread_local int given;

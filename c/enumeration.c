@@ -1,6 +1,15 @@
 /* Events one after the other: PAPI_enum_cmp_event(3). */
-#include "internal.h"
+#include "posix.h"
+#include "calls.h"
+#include "codes.h"
+#include "components.h"
+#include "events.h"
+#include "papi.h"
+#include "presets.h"
+#include "thread.h"
+#include "versions.h"
 
+#include <stdint.h>
 #include <string.h>
 
 /* The codes of native events that have umasks, without any of them: the component and the row of the event. */

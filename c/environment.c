@@ -1,9 +1,11 @@
 /* The variables of the environment. */
 #define _GNU_SOURCE
-#include "internal.h"
+#include "environment.h"
+#include "papi.h"
 
 #include <ctype.h>
 #include <errno.h>
+#include <stdint.h>
 #include <stdio.h>
 #include <stdlib.h>
 

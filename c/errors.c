@@ -1,7 +1,14 @@
 /* Errors: their texts, the thread's last one, and the error handler. */
-#include "internal.h"
+#include "posix.h"
+#include "calls.h"
+#include "errors.h"
+#include "holds.h"
+#include "papi.h"
+#include "thread.h"
 
 #include <errno.h>
+#include <stdatomic.h>
+#include <stdint.h>
 #include <stdio.h>
 #include <stdlib.h>
 #include <string.h>

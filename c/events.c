@@ -1,6 +1,15 @@
 /* Events: their names and codes, and what is told of them. */
-#include "internal.h"
+#include "posix.h"
+#include "calls.h"
+#include "codes.h"
+#include "components.h"
+#include "events.h"
+#include "papi.h"
+#include "presets.h"
+#include "thread.h"
+#include "versions.h"
 
+#include <stdint.h>
 #include <stdio.h>
 #include <string.h>
 

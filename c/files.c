@@ -1,6 +1,12 @@
 /* The unit file and the preset file: read once for the process. */
-#include "internal.h"
+#include "posix.h"
+#include "files.h"
+#include "limits.h"
+#include "papi.h"
+#include "silent.h"
+#include "streams.h"
 
+#include <stdint.h>
 #include <stdio.h>
 #include <stdlib.h>
 #include <string.h>

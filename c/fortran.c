@@ -1,6 +1,8 @@
 /* The routines of Fortran, PAPIF_accum(3) and so on, in the four spellings that compilers make of a name. Each hands its arguments on to the
  * function of papi.h. The lengths of texts come after the arguments; a text of Fortran has no end, and blanks fill it up. */
-#include "internal.h"
+#include "posix.h"
+#include "events.h"
+#include "papi.h"
 
 #include <string.h>
 

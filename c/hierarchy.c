@@ -1,6 +1,9 @@
 /* The caches of the modelled processor, as the environment names them: KISTALUB_CACHES has words `NAME=SIZE,WAYS,LINE` for l1d, l1i, l2 and l3, and
  * `NAME=ENTRIES,WAYS,PAGE` for dtlb and itlb, with spaces between them. */
-#include "internal.h"
+#include "posix.h"
+#include "environment.h"
+#include "machine.h"
+#include "papi.h"
 
 #include <ctype.h>
 #include <errno.h>

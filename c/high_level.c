@@ -1,7 +1,16 @@
 /* The high level: regions count the events that PAPI_EVENTS names. What they counted is written when the process ends. */
+#include "posix.h"
+#include "calls.h"
 #include "high_level.h"
+#include "locks.h"
+#include "papi.h"
+#include "process.h"
+#include "regions.h"
+#include "thread.h"
 
-#include <stdio.h>
+#include <pthread.h>
+#include <stdatomic.h>
+#include <stdint.h>
 #include <stdlib.h>
 #include <string.h>
 
@@ -217,7 +226,7 @@ static int has_failed(void) {
 static int prepare(void) {
     if (has_failed()) return PAPI_EMISC;
     int code = kl_begin_library();
-    thread_state *t = code == PAPI_OK ? kl_here(&code) : NULL;
+    thread_state *t = code == PAPI_OK ? kl_current_thread(&code) : NULL;
     if (!t) return code;
     lock_regions();
     code = begin_regions();

@@ -1,9 +1,15 @@
 /* Calls that go on after a function of the user: a handler, or the function that gives a thread's id. It may end the library, and it may jump out of the
  * call: by longjmp, or by an exception of C++. */
 #define _GNU_SOURCE
-#include "internal.h"
+#include "holds.h"
+#include "papi.h"
+#include "process.h"
+#include "thread.h"
 
 #include <signal.h>
+#include <stdatomic.h>
+#include <stddef.h>
+#include <stdint.h>
 #include <unwind.h>
 
 int kl_on_another_stack(void) {

@@ -1,7 +1,21 @@
 /* What a program does while it runs, as the tool of Valgrind counts it: at each call of a thread whatever it did since its last call happens in the core, which
  * decides what is counted. The tool stops a thread early enough for each threshold. */
+#include "posix.h"
+#include "../tools/valgrind/kinds.h"
+#include "../tools/valgrind/protocol.h"
+#include "calls.h"
+#include "holds.h"
+#include "limits.h"
 #include "live.h"
+#include "live_requests.h"
+#include "live_thread.h"
+#include "papi.h"
+#include "sets.h"
+#include "signals.h"
+#include "thread.h"
+#include "watches.h"
 
+#include <stdint.h>
 #include <stdlib.h>
 #include <string.h>
 
@@ -67,7 +81,7 @@ static void take_new(thread_state *t, uint64_t address) {
 
 /* Nothing happens to a thread that has ended. */
 static void catch_up(uint64_t address) {
-    thread_state *t = kl_known();
+    thread_state *t = kl_peek_thread();
     if (!t || !t->live) return;
     kl_change_enters();
     take_new(t, address);
@@ -164,7 +178,7 @@ static void look_after(thread_state *t, int may_start_or_stop) {
 }
 
 static void look_after_all(int may_start_or_stop) {
-    thread_state *t = kl_known();
+    thread_state *t = kl_peek_thread();
     if (t && t->live) look_after(t, may_start_or_stop);
 }
 
@@ -177,7 +191,7 @@ void kl_live_stops(uint64_t address) {
 
 void kl_live_enters(void) {
     kl_ask(KL_ENTER, 0, 0, 0);
-    const thread_state *t = kl_known();
+    const thread_state *t = kl_peek_thread();
     if (t && t->live && t->live->wanted) catch_up(0);
 }
 

@@ -3,8 +3,14 @@
 #define recorded_codes kl_recorded_codes
 #define read_codes kl_read_codes
 #define kind_names kl_kind_names
-#include "live.h"
+#include "posix.h"
+#include "../tools/valgrind/kinds.h"
+#include "environment.h"
+#include "live_thread.h"
+#include "papi.h"
 
+#include <pthread.h>
+#include <stdint.h>
 #include <string.h>
 #include <strings.h>
 

@@ -1,7 +1,18 @@
 /* Occurrences of a program that runs, handed over to its thread's library as numbers (docs/FORMATS.md, Occurrences as numbers). A handler of thresholds may jump out
  * between two calls of the core, so what has happened is taken off at once: what is left happens at the thread's next call. */
-#include "live.h"
+#include "posix.h"
+#include "../tools/valgrind/kinds.h"
+#include "calls.h"
+#include "holds.h"
+#include "limits.h"
+#include "live_thread.h"
+#include "papi.h"
+#include "sets.h"
+#include "signals.h"
+#include "thread.h"
+#include "watches.h"
 
+#include <stdint.h>
 #include <stdio.h>
 
 /* What the core takes at once, while the thread's signals wait. They are whole lines. */

@@ -2,7 +2,10 @@
  * and what then happens in the core takes memory. c/build gives the proved library's heap these names in place of malloc, realloc and free. */
 #define _GNU_SOURCE
 #include "live.h"
+#include "locks.h"
 
+#include <pthread.h>
+#include <stdint.h>
 #include <stdlib.h>
 #include <string.h>
 #include <sys/mman.h>

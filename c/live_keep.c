@@ -1,10 +1,16 @@
 /* What happens while a set of a thread counts, kept in a file as lines of a stream: KISTALUB_KEEP has the number of the process and the path, where %t stands for the
  * number of the thread. It holds for that process alone. */
 #define _GNU_SOURCE
-#include "live.h"
+#include "environment.h"
+#include "limits.h"
+#include "live_thread.h"
+#include "papi.h"
+#include "streams.h"
+#include "thread.h"
 
 #include <errno.h>
 #include <fcntl.h>
+#include <stdint.h>
 #include <stdio.h>
 #include <stdlib.h>
 #include <string.h>

@@ -1,6 +1,19 @@
 /* Which kinds of occurrences an event counts. The core is asked: a library of its own counts the event over three lines of each. */
-#include "live.h"
+#include "posix.h"
+#include "../tools/valgrind/kinds.h"
+#include "events.h"
+#include "files.h"
+#include "limits.h"
+#include "live_thread.h"
+#include "locks.h"
+#include "papi.h"
+#include "process.h"
+#include "sets.h"
+#include "silent.h"
+#include "thread.h"
 
+#include <pthread.h>
+#include <stdint.h>
 #include <stdio.h>
 #include <stdlib.h>
 #include <string.h>

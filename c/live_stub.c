@@ -1,8 +1,12 @@
 /* Where the tool sends a thread between two instructions of the program, when it has passed what it was to stop at. All registers and the 128 bytes below the
  * stack are afterwards as they were. An exception can pass through: the frame is described as that of a signal. */
-#include "live.h"
+#include "posix.h"
+#include "../tools/valgrind/protocol.h"
+#include "live_requests.h"
+#include "live_thread.h"
 
 #include <errno.h>
+#include <stdint.h>
 
 #if defined __x86_64__
 /* What is saved, from the stack's end upwards, and where to go on. */

@@ -1,7 +1,12 @@
 /* The locks of all sources, what a fork does with them, and those of the program. */
-#include "internal.h"
+#include "posix.h"
+#include "calls.h"
+#include "locks.h"
+#include "papi.h"
 
+#include <pthread.h>
 #include <semaphore.h>
+#include <stddef.h>
 
 pthread_mutex_t kl_region_lock = PTHREAD_MUTEX_INITIALIZER;
 pthread_mutex_t kl_beginning = PTHREAD_MUTEX_INITIALIZER;

@@ -1,8 +1,17 @@
 /* The modelled processor, and the process as the system knows it. */
 #define _GNU_SOURCE
-#include "internal.h"
+#include "calls.h"
+#include "clock.h"
+#include "components.h"
+#include "locks.h"
+#include "machine.h"
+#include "papi.h"
+#include "process.h"
+#include "thread.h"
 
 #include <link.h>
+#include <pthread.h>
+#include <stdint.h>
 #include <stdio.h>
 #include <stdlib.h>
 #include <string.h>
@@ -79,7 +88,7 @@ const PAPI_hw_info_t *PAPI_get_hardware_info(void) {
     CALL(PAPI_get_hardware_info);
     char pmu[PAPI_MAX_STR_LEN];
     int code;
-    thread_state *t = kl_here(&code);
+    thread_state *t = kl_current_thread(&code);
     if (!t || kl_component_text(t, 0, KISTALUB_COMPONENT_PMU, 0, pmu, sizeof pmu) != PAPI_OK) return NULL;
     pthread_mutex_lock(&kl_machine_lock);
     if (!machine.is_described) describe_hardware(&machine.hardware, pmu);

@@ -1,6 +1,20 @@
 /* Options, domains, granularities and multiplexing: PAPI_set_opt(3), PAPI_get_opt(3). */
-#include "internal.h"
+#include "posix.h"
+#include "calls.h"
+#include "clock.h"
+#include "environment.h"
+#include "errors.h"
+#include "limits.h"
+#include "locks.h"
+#include "options.h"
+#include "papi.h"
+#include "process.h"
+#include "sets.h"
+#include "thread.h"
 
+#include <pthread.h>
+#include <stdatomic.h>
+#include <stdint.h>
 #include <stdio.h>
 #include <string.h>
 

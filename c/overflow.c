@@ -1,6 +1,15 @@
 /* Thresholds that are passed: handlers, and which events have one. */
-#include "internal.h"
+#include "posix.h"
+#include "calls.h"
+#include "events.h"
+#include "holds.h"
+#include "limits.h"
+#include "papi.h"
+#include "sets.h"
+#include "thread.h"
+#include "watches.h"
 
+#include <stdint.h>
 #include <string.h>
 
 int kl_has_handler(const kl_set *s) {

@@ -1,7 +1,10 @@
 /* PAPI's presets: the names, descriptions and kinds that PAPI has for them. The model has some of them; a program gets another one if the preset file has a
  * user event of its name without PAPI_ (codes.c). */
-#include "internal.h"
+#include "posix.h"
+#include "papi.h"
+#include "presets.h"
 
+#include <stdbool.h>
 #include <string.h>
 #include <strings.h>
 

@@ -1,8 +1,24 @@
 /* The process: the library begins and ends. */
-#include "internal.h"
+#include "posix.h"
+#include "calls.h"
+#include "clock.h"
+#include "codes.h"
+#include "components.h"
+#include "environment.h"
+#include "files.h"
+#include "locks.h"
+#include "machine.h"
+#include "options.h"
+#include "papi.h"
+#include "process.h"
+#include "streams.h"
+#include "thread.h"
+#include "versions.h"
 
+#include <pthread.h>
+#include <stdatomic.h>
+#include <stdint.h>
 #include <stdio.h>
-#include <stdlib.h>
 #include <unistd.h>
 
 atomic_uint kl_generation;
@@ -77,7 +93,7 @@ static int begin_library(void) {
     if (++begun.last == 0) begun.last = 1;
     begun.process = getpid();
     int code = kl_enters(&first, begun.last);
-    if (code == PAPI_OK) kl_here(&code);
+    if (code == PAPI_OK) kl_current_thread(&code);
     return code;
 }
 

@@ -1,7 +1,13 @@
 /* Profiles: PAPI_profil(3), PAPI_sprofil(3). */
-#include "internal.h"
+#include "posix.h"
+#include "calls.h"
+#include "papi.h"
+#include "sets.h"
+#include "thread.h"
+#include "watches.h"
 
 #include <limits.h>
+#include <stdint.h>
 #include <string.h>
 
 #define LARGEST_SCALE 131072

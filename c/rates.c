@@ -1,7 +1,12 @@
 /* Rates: a set of the calling thread that each call stops, tells of, and starts anew. */
-#include "internal.h"
+#include "posix.h"
+#include "calls.h"
+#include "high_level.h"
+#include "papi.h"
+#include "process.h"
+#include "thread.h"
 
-#include <string.h>
+#include <stdatomic.h>
 
 #define MOST_RATED 3
 

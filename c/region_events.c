@@ -1,5 +1,8 @@
 /* What the regions of the high level count: the events of PAPI_EVENTS. */
-#include "high_level.h"
+#include "posix.h"
+#include "environment.h"
+#include "papi.h"
+#include "regions.h"
 
 #include <ctype.h>
 #include <stdio.h>

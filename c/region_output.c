@@ -1,5 +1,8 @@
 /* What the regions of the high level have counted, as PAPI's JSON file: PAPI_hl_region_end(3). */
-#include "high_level.h"
+#include "posix.h"
+#include "environment.h"
+#include "papi.h"
+#include "regions.h"
 
 #include <errno.h>
 #include <fcntl.h>

@@ -1,8 +1,18 @@
 /* The numbers of event sets. One that the program sees is the process's, the least that no set has. The library of each thread numbers by itself. */
-#include "internal.h"
+#include "posix.h"
+#include "calls.h"
+#include "codes.h"
+#include "limits.h"
+#include "locks.h"
+#include "papi.h"
+#include "process.h"
+#include "sets.h"
+#include "thread.h"
 
+#include <pthread.h>
+#include <stdatomic.h>
+#include <stdint.h>
 #include <stdlib.h>
-#include <string.h>
 
 #define FIRST_ROOM 64
 

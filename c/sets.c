@@ -1,6 +1,18 @@
 /* Event sets and their events. */
-#include "internal.h"
+#include "posix.h"
+#include "calls.h"
+#include "codes.h"
+#include "components.h"
+#include "events.h"
+#include "limits.h"
+#include "options.h"
+#include "papi.h"
+#include "presets.h"
+#include "sets.h"
+#include "thread.h"
+#include "watches.h"
 
+#include <stdint.h>
 #include <string.h>
 
 /* Gives the set another domain. */

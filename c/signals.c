@@ -3,9 +3,18 @@
  * each signal. Where a handler was set since, the call that it interrupted goes on after it: a reading then gives the values that were told last, and what
  * else was asked for is done when that call ends. */
 #define _GNU_SOURCE
-#include "internal.h"
+#include "calls.h"
+#include "limits.h"
+#include "locks.h"
+#include "papi.h"
+#include "sets.h"
+#include "signals.h"
+#include "thread.h"
 
+#include <pthread.h>
 #include <signal.h>
+#include <stdatomic.h>
+#include <stdint.h>
 #include <string.h>
 
 #define FIRST_LOOKS 2
@@ -49,14 +58,14 @@ static __attribute__((noinline)) void look(kl_signals *s) {
 }
 
 /* A tool that puts signals off, such as ThreadSanitizer, may call a handler when they are blocked already: what was blocked before is kept after that. */
-static __attribute__((noinline)) void wait_for_end(kl_signals *s) {
+static __attribute__((noinline)) void block_signals(kl_signals *s) {
     sigset_t before;
     pthread_sigmask(SIG_SETMASK, &s->others, &before);
     s->before = before;
     s->are_waiting = 1;
 }
 
-static __attribute__((noinline)) void come(kl_signals *s) {
+static __attribute__((noinline)) void restore_mask(kl_signals *s) {
     const sigset_t before = s->before;
     s->are_waiting = 0;
     pthread_sigmask(SIG_SETMASK, &before, NULL);
@@ -83,7 +92,7 @@ int kl_core_begins(thread_state *t) {
         return 0;
     }
     if (s->until_look-- == 0) look(s);
-    if (are_met()) wait_for_end(s);
+    if (are_met()) block_signals(s);
     s->depth = KL_CORE_READS;
     atomic_signal_fence(memory_order_seq_cst);
     if (s->to_stop | s->to_reset) do_asked(t);
@@ -99,7 +108,7 @@ void kl_core_ends(thread_state *t) {
     kl_signals *s = &t->signals;
     atomic_signal_fence(memory_order_seq_cst);
     s->depth = 0;
-    if (s->are_waiting) come(s);
+    if (s->are_waiting) restore_mask(s);
     if (s->to_stop | s->to_reset) do_now(t);
 }
 
@@ -116,7 +125,7 @@ void kl_change_begins(void) {
 
 /* What was asked for by handlers that interrupted the function all the same is done. */
 void kl_change_ends(void) {
-    thread_state *t = atomic_load_explicit(&is_met, memory_order_relaxed) ? kl_known() : NULL;
+    thread_state *t = atomic_load_explicit(&is_met, memory_order_relaxed) ? kl_peek_thread() : NULL;
     if (t && (t->signals.to_stop | t->signals.to_reset)) do_now(t);
     kl_cancel_again(NULL);
     if (!change.are_waiting) return;

@@ -1,7 +1,20 @@
 /* Events that count nothing. A native event of a set that is started, for which no line of the thread's stream counts, is told once on standard error. The core is
  * asked: a library of its own counts the event over two lines of each head that the stream has. With KISTALUB_HINTS=0 nothing is told. */
-#include "internal.h"
+#include "posix.h"
+#include "environment.h"
+#include "events.h"
+#include "files.h"
+#include "limits.h"
+#include "locks.h"
+#include "papi.h"
+#include "process.h"
+#include "sets.h"
+#include "signals.h"
+#include "silent.h"
+#include "thread.h"
 
+#include <pthread.h>
+#include <stdint.h>
 #include <stdio.h>
 #include <stdlib.h>
 #include <string.h>

@@ -1,9 +1,18 @@
 /* The bytes of streams. One that all threads have lies in memory once: it is mapped, and looked at again only if the file has changed. One of a thread alone
  * is there while its library is opened, which keeps what it needs. */
-#include "internal.h"
+#include "posix.h"
+#include "files.h"
+#include "limits.h"
+#include "locks.h"
+#include "papi.h"
+#include "sets.h"
+#include "streams.h"
+#include "thread.h"
 
 #include <errno.h>
 #include <fcntl.h>
+#include <pthread.h>
+#include <stdint.h>
 #include <stdio.h>
 #include <stdlib.h>
 #include <sys/mman.h>

@@ -1,7 +1,25 @@
 /* What one thread has: opened at its first call, closed at its end if it has no set then, or when it finds that the library of its calls has ended. */
-#include "internal.h"
+#include "posix.h"
+#include "calls.h"
+#include "codes.h"
+#include "files.h"
+#include "high_level.h"
+#include "holds.h"
+#include "live.h"
+#include "locks.h"
+#include "options.h"
+#include "papi.h"
+#include "process.h"
+#include "sets.h"
+#include "signals.h"
+#include "silent.h"
+#include "streams.h"
+#include "thread.h"
 
 #include <limits.h>
+#include <pthread.h>
+#include <stdatomic.h>
+#include <stdint.h>
 #include <stdlib.h>
 #include <string.h>
 
@@ -189,7 +207,7 @@ int kl_enters(const uint32_t *asked, unsigned begun) {
     return PAPI_OK;
 }
 
-thread_state *kl_known(void) {
+thread_state *kl_peek_thread(void) {
     unsigned generation = atomic_load(&kl_generation);
     return generation && own.state && own.generation == generation ? own.state : NULL;
 }
@@ -236,7 +254,7 @@ static int name_state(thread_state *t) {
 
 /* A thread is listed before its stream is read. The function that gives its id may make calls, which then open the library. */
 static int enter_and_open(void) {
-    int code = kl_known() ? PAPI_OK : kl_enters(NULL, 0);
+    int code = kl_peek_thread() ? PAPI_OK : kl_enters(NULL, 0);
     if (code == PAPI_OK && own.state->is_lost) code = PAPI_ECLOST;
     if (code == PAPI_OK && !own.state->has_id) code = name_state(own.state);
     return code == PAPI_OK && !own.state->is_opened ? open_state(own.state) : code;
@@ -253,15 +271,15 @@ static __attribute__((noinline)) thread_state *begin_thread(int *code) {
     return *code == PAPI_OK ? own.state : NULL;
 }
 
-thread_state *kl_here(int *code) {
-    thread_state *t = kl_known();
+thread_state *kl_current_thread(int *code) {
+    thread_state *t = kl_peek_thread();
     *code = PAPI_OK;
     return t && t->is_opened && t->has_id ? t : begin_thread(code);
 }
 
 int kistalub_thread(uint32_t number) {
     CALL(kistalub_thread);
-    const thread_state *t = kl_known();
+    const thread_state *t = kl_peek_thread();
     if (!kl_is_open()) return PAPI_ENOINIT;
     if (t) return t->number == number ? PAPI_OK : PAPI_EINVAL;
     return kl_enters(&number, 0);

@@ -1,7 +1,14 @@
 /* Threads: their ids, the list of them, and what they keep for the program. */
 #define _GNU_SOURCE
-#include "internal.h"
+#include "calls.h"
+#include "holds.h"
+#include "locks.h"
+#include "papi.h"
+#include "process.h"
+#include "thread.h"
 
+#include <pthread.h>
+#include <stdatomic.h>
 #include <unistd.h>
 
 static struct { unsigned long (*_Atomic function)(void); atomic_int are_threads; } ids;
@@ -74,7 +81,7 @@ static unsigned long own_id(void) { return (unsigned long)gettid(); }
 /* What rates and regions need: ids are those of the system, as in PAPI. Where there are threads already, their ids stay as they are. */
 int kl_thread_support(void) {
     int code;
-    thread_state *t = kl_here(&code);
+    thread_state *t = kl_current_thread(&code);
     if (t) code = support(t, own_id);
     return code == PAPI_EINVAL ? PAPI_OK : code;
 }
@@ -95,7 +102,7 @@ int PAPI_register_thread(void) {
 /* PAPI_EMISC if the thread is not registered. Its event sets and its stream stay, and its next call registers it again. */
 int PAPI_unregister_thread(void) {
     CALL(PAPI_unregister_thread);
-    thread_state *t = kl_known();
+    thread_state *t = kl_peek_thread();
     if (!atomic_load(&kl_generation)) RETURN(PAPI_ENOINIT);
     int code = t ? kistalub_unregister(&t->library) : PAPI_EMISC;
     if (code != PAPI_OK) RETURN(code == PAPI_EINVAL || code == PAPI_ENOINIT ? PAPI_EMISC : code);

@@ -1,9 +1,19 @@
 /* Time: the model's, in which each occurrence of the thread's stream takes a cycle, so that it repeats; with KISTALUB_CLOCK=real the machine's. Of a program
  * that runs under the tool (live.h) it is that of its own cycles. */
-#include "internal.h"
+#include "posix.h"
+#include "calls.h"
+#include "clock.h"
+#include "counting.h"
+#include "environment.h"
+#include "live.h"
+#include "papi.h"
+#include "process.h"
+#include "thread.h"
 
+#include <stdatomic.h>
+#include <stdbool.h>
+#include <stdint.h>
 #include <stdio.h>
-#include <stdlib.h>
 #include <string.h>
 #include <time.h>
 
@@ -60,8 +70,8 @@ static struct timespec machine_time(clockid_t clock) {
 static uint64_t model_time(clockid_t clock) {
     int code;
     if (kl_is_live()) return kl_live_cycles(clock == CLOCK_MONOTONIC);
-    const thread_state *t = kl_known();
-    if (!t || !t->is_opened) t = kl_here(&code);
+    const thread_state *t = kl_peek_thread();
+    if (!t || !t->is_opened) t = kl_current_thread(&code);
     return t ? t->happened : kl_past_time();
 }
 

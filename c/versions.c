@@ -1,7 +1,11 @@
 /* What a program that was compiled by the headers of a later version than PAPI 7.0 finds where these have it. 7.1 has what 7.0 has (Debian's libpapi-dev 7.1.0-5);
  * 7.2 has numbers and members in between (7.2.0-2). The version is that of PAPI_library_init. */
-#include "internal.h"
+#include "posix.h"
+#include "limits.h"
+#include "papi.h"
+#include "versions.h"
 
+#include <stdatomic.h>
 #include <stddef.h>
 #include <string.h>
 

@@ -5,7 +5,7 @@
  * `looked_at`, or none if a period is 0; and the instructions of a turn. What the program does by
  * itself is the same whatever they are. */
 #define _GNU_SOURCE
-#include "live.h"
+#include "live_requests.h"
 
 #include <stdio.h>
 #include <stdlib.h>

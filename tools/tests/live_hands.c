@@ -1,6 +1,12 @@
 /* c/live_counts.c over a core that takes so many lines and no more, and passes a threshold with each line if it is told so: live_hands ROOM [jump | leave | turns]
  * It prints each line that happened, by its kind and amount, and a point behind each call. */
-#include "../../c/live.h"
+#include "../../c/holds.h"
+#include "../../c/limits.h"
+#include "../../c/live_thread.h"
+#include "../../c/sets.h"
+#include "../../c/signals.h"
+#include "../../c/thread.h"
+#include "../../c/watches.h"
 
 #include <setjmp.h>
 #include <stdio.h>

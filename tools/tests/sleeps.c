@@ -1,6 +1,6 @@
 /* Waits by the system call that its word names, and tells how many cycles of the model went by. */
 #define _GNU_SOURCE
-#include "live.h"
+#include "live_requests.h"
 #include <errno.h>
 #include <poll.h>
 #include <signal.h>

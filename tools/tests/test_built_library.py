@@ -121,7 +121,7 @@ class BuiltLibrary(WithFakeKit):
         self.write(PROVED, "")
         folders = [self.library()[1]]
         for name in (
-            "c/read.c",
+            "c/whole_file.c",
             "c/calls.h",
             "include/papi.h",
             PROVED.removeprefix("checkout/"),

@@ -68,7 +68,7 @@ class Sanitized(unittest.TestCase):
 
     def test_a_report_of_the_library_alone(self) -> None:
         for kind in ("ERROR: AddressSanitizer", "WARNING: ThreadSanitizer"):
-            for place, report in ((f"{ROOT}/c/read.c:12", f"{kind} at read.c:12"), ("/other/test.c:12", "")):
+            for place, report in ((f"{ROOT}/c/whole_file.c:12", f"{kind} at whole_file.c:12"), ("/other/test.c:12", "")):
                 self.assertEqual(papi_sanitized.report_of(f"said\n{kind}: race\n  #0 name {place}\n"), report)
 
     def test_one_that_does_not_end_has_not_passed(self) -> None:

@@ -319,7 +319,7 @@ class Lines(Recording):
         """Each instruction may pass a threshold of each kind. None is passed."""
         program = self.compile("many", f"""
             #define _GNU_SOURCE
-            #include "{ROOT}/c/live.h"
+            #include "{ROOT}/c/live_requests.h"
             #include <stdio.h>
             void kl_live_stub(void) {{ puts("passed"); _exit(1); }}
             static long room[8192];
@@ -338,7 +338,7 @@ class Lines(Recording):
 
     STOPS = """
         #define _GNU_SOURCE
-        #include "live.h"
+        #include "live_requests.h"
         #include <stdio.h>
         #include <string.h>
         extern const char first[] __asm__("__start_kistalub_code"), end[] __asm__("__stop_kistalub_code");

@@ -1,5 +1,7 @@
 /* Files, read as a whole, and what is said where one can't be. */
-#include "internal.h"
+#include "posix.h"
+#include "files.h"
+#include "papi.h"
 
 #include <errno.h>
 #include <stdio.h>
