@@ -18,7 +18,7 @@ core *current;
 ThreadId running;
 cache shared_l3;
 
-static core *nobodys;
+static core *uncounted;
 static core **cores; /* by thread */
 static Bool has_begun, is_over;
 static ULong ended[ALL_KINDS]; /* the counts of threads that are no more */
@@ -67,10 +67,10 @@ static core *new_core(void) {
 
 void cores_begin(void) {
     cores = VG_(calloc)("cores", VG_N_THREADS, sizeof *cores);
-    nobodys = new_core();
-    nobodys->is_nobodys = True;
-    nobodys->rooms = idle_rooms();
-    current = nobodys;
+    uncounted = new_core();
+    uncounted->is_uncounted = True;
+    uncounted->rooms = idle_rooms();
+    current = uncounted;
     has_begun = !words.from && !words.from_entry;
     cache_begins(&shared_l3, &words.l3, pages(cache_room(&words.l3) + LINE));
 }
@@ -93,8 +93,8 @@ void kinds_add_up(ULong all[ALL_KINDS]) {
     all[KL_NOT_TAKEN] += all[LEFT_NOT_TAKEN] - all[STAYED_TAKEN] + all[STAYED_NOT_TAKEN];
     all[KL_TAKEN] += all[RIGHT_TAKEN] + all[WRONG_TAKEN];
     all[KL_NOT_TAKEN] += all[RIGHT_NOT_TAKEN] + all[WRONG_NOT_TAKEN];
-    all[KL_ERRED_TAKEN] += all[WRONG_TAKEN];
-    all[KL_ERRED_NOT_TAKEN] += all[WRONG_NOT_TAKEN];
+    all[KL_MISPREDICTED_TAKEN] += all[WRONG_TAKEN];
+    all[KL_MISPREDICTED_NOT_TAKEN] += all[WRONG_NOT_TAKEN];
     all[KL_STALLS] += words.costs[BRANCH_ERRED] * (all[WRONG_TAKEN] + all[WRONG_NOT_TAKEN]);
     all[KL_CYCLES] += all[KL_INSTRUCTIONS] + all[KL_STALLS];
     all[LOAD_HITS] = all[KL_LOADS] - all[KL_L1D_LOAD_MISSES];
@@ -119,7 +119,7 @@ void core_thread_ends(ThreadId tid) {
 void set_current(ThreadId tid) {
     core *c = core_of(tid);
     Bool counts = has_begun && c && !c->is_in_library && (words.threads == ANY_THREAD || tid == 1);
-    current = counts ? c : nobodys;
+    current = counts ? c : uncounted;
 }
 
 Bool counting_has_begun(void) { return has_begun; }

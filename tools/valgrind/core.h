@@ -23,7 +23,7 @@ typedef struct {
     const block *at;     /* the block that runs */
     Addr last;           /* the last instruction of the block before, if something is armed */
     Long leaves;         /* below 0: a threshold was passed, or the machine brought one near. The block is left behind the instruction that runs */
-    Bool is_nobodys;     /* what runs here is not counted */
+    Bool is_uncounted;     /* what runs here is not counted */
     cache l1d, l1i, l2, dtlb, itlb;
     predictor branches;
     Addr repeated[2];    /* the lines, from 1 on, at which the two operands of an instruction that repeats itself are; 0 for none */

@@ -133,7 +133,7 @@ void frames_leave(Addr sp) { leave(current, sp); }
  * followed in calls of these alone. */
 void frames_enter(function *of, Addr sp) {
     core *c = current;
-    if (c->is_nobodys) return;
+    if (c->is_uncounted) return;
     leave(c, sp);
     if (c->top == sp && c->frames->all[c->frames->used - 1].of == of) return;
     if (functions_are_named() && !of->is_named && c->top == NO_CALL) return;

@@ -7,14 +7,14 @@
 #include "words.h"
 
 enum { OWN_MISS, L2_HIT, L2_MISS, L3_HIT, L3_MISS, PAGE_MISS, CYCLES, STALLS, OWN_HIT, SPLIT, STORE_SPLIT, MADE_HERE };
-enum { ERRED_NOT_TAKEN, ERRED_TAKEN };
+enum { MISPREDICTED_NOT_TAKEN, MISPREDICTED_TAKEN };
 
 static const UChar kinds[4][MADE_HERE] = {
     [BY_LOAD] = {KL_L1D_LOAD_MISSES, KL_L2_LOAD_HITS, KL_L2_LOAD_MISSES, KL_L3_LOAD_HITS, KL_L3_LOAD_MISSES, KL_DTLB_LOAD_MISSES, KL_CYCLES, KL_STALLS, LOAD_HITS, KL_SPLIT_LOADS,
                  KL_SPLIT_STORES},
     [BY_STORE] = {KL_L1D_STORE_MISSES, KL_L2_STORE_HITS, KL_L2_STORE_MISSES, KL_L3_STORE_HITS, KL_L3_STORE_MISSES, KL_DTLB_STORE_MISSES, KL_CYCLES, KL_STALLS, [SPLIT] = KL_SPLIT_STORES},
     [BY_FETCH] = {KL_L1I_MISSES, KL_L2_FETCH_HITS, KL_L2_FETCH_MISSES, KL_L3_FETCH_HITS, KL_L3_FETCH_MISSES, KL_ITLB_MISSES, KL_CYCLES, KL_STALLS},
-    [BY_BRANCH] = {[ERRED_NOT_TAKEN] = KL_ERRED_NOT_TAKEN, [ERRED_TAKEN] = KL_ERRED_TAKEN, [CYCLES] = KL_CYCLES, [STALLS] = KL_STALLS},
+    [BY_BRANCH] = {[MISPREDICTED_NOT_TAKEN] = KL_MISPREDICTED_NOT_TAKEN, [MISPREDICTED_TAKEN] = KL_MISPREDICTED_TAKEN, [CYCLES] = KL_CYCLES, [STALLS] = KL_STALLS},
 };
 
 static void put_on_tape(core *c, site *s, UInt what, UInt amount) {
@@ -72,7 +72,7 @@ static void splits(core *c, site *s, Addr address, const cache *lines) {
 }
 
 static void meet(core *c, site *s, Addr address, cache *pages, cache *lines) {
-    if (c->is_nobodys) {
+    if (c->is_uncounted) {
         use(pages, address);
         use(lines, address);
         return;
@@ -95,7 +95,7 @@ void model_sees_access(site *s, Addr address) {
         if (has_no_room(c, s->access[i].slot)) tape_sees_item(s->access + i);
     if (!words.has_model) return;
     meet(c, s, address, &c->dtlb, &c->l1d);
-    if (!c->is_nobodys) splits(c, s, address, &c->l1d);
+    if (!c->is_uncounted) splits(c, s, address, &c->l1d);
 }
 
 void model_sees_masked(site *s, Addr address, ULong mask, ULong width) {
@@ -103,7 +103,7 @@ void model_sees_masked(site *s, Addr address, ULong mask, ULong width) {
     UInt first = (UInt)__builtin_ctzll(mask), last = 63 - (UInt)__builtin_clzll(mask);
     s->size = (UShort)((last - first + 1) * width);
     meet(current, s, address + first * width, &current->dtlb, &current->l1d);
-    if (!current->is_nobodys) splits(current, s, address + first * width, &current->l1d);
+    if (!current->is_uncounted) splits(current, s, address + first * width, &current->l1d);
 }
 
 void model_sees_fetch(site *s) { meet(current, s, s->pc, &current->itlb, &current->l1i); }
@@ -114,7 +114,7 @@ void model_sees_branch(site *s, ULong taken, ULong errs) {
         if (has_no_room(c, s->line.slot) || has_no_room(c, s->line.slot + 1)) tape_sees_line(&s->line);
         if (has_no_room(c, s->branch[taken].slot)) tape_sees_item(s->branch + taken);
     }
-    if (!errs || c->is_nobodys) return;
-    happens(c, s, taken ? ERRED_TAKEN : ERRED_NOT_TAKEN);
+    if (!errs || c->is_uncounted) return;
+    happens(c, s, taken ? MISPREDICTED_TAKEN : MISPREDICTED_NOT_TAKEN);
     stall(c, s, BRANCH_ERRED);
 }

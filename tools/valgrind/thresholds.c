@@ -40,7 +40,7 @@ static Bool has_threshold(UInt kind) {
 }
 
 static Bool is_of_machine(UInt kind) {
-    Bool is_miss = (kind >= KL_L1D_LOAD_MISSES && kind <= KL_ITLB_MISSES) || kind == KL_SPLIT_LOADS || kind == KL_SPLIT_STORES, is_erred = kind == KL_ERRED_TAKEN || kind == KL_ERRED_NOT_TAKEN;
+    Bool is_miss = (kind >= KL_L1D_LOAD_MISSES && kind <= KL_ITLB_MISSES) || kind == KL_SPLIT_LOADS || kind == KL_SPLIT_STORES, is_erred = kind == KL_MISPREDICTED_TAKEN || kind == KL_MISPREDICTED_NOT_TAKEN;
     return words.has_model && (is_miss || is_erred || kind == KL_CYCLES || kind == KL_STALLS);
 }
 
