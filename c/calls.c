@@ -31,7 +31,10 @@ void kl_call_leaves(void) {
 /* -- a call that was left by a jump -- */
 
 /* Whether the place is one of the library's code: each is if that is not known. */
-static int is_own(uintptr_t place) { return !kl_first_byte || place - (uintptr_t)kl_first_byte < (size_t)(kl_end_byte - kl_first_byte); }
+static int is_own(uintptr_t place) {
+    return !kl_first_byte ||
+           place - (uintptr_t)kl_first_byte < (size_t)(kl_end_byte - kl_first_byte);
+}
 
 typedef struct { uintptr_t begins, end, place; int is_past, is_found; } search;
 
@@ -45,14 +48,16 @@ static _Unwind_Reason_Code look(struct _Unwind_Context *frame, void *data) {
     return s->is_found ? _URC_END_OF_STACK : _URC_NO_REASON;
 }
 
-/* The way up the stack ends at the place 0, or before at a function without unwind tables: a call that may stand above that goes on. */
+/* The way up the stack ends at the place 0, or before at a function without unwind tables: a call
+ * that may stand above that goes on. */
 static int goes_on(const void *end, const void *begins) {
     search s = { (uintptr_t)begins, (uintptr_t)end, 0, 0, 0 };
     _Unwind_Backtrace(look, &s);
     return s.is_found || (s.place && ((uintptr_t)end > (uintptr_t)begins || kl_on_another_stack()));
 }
 
-/* A call that the program makes meanwhile is that of a signal's handler, or the one before was left. */
+/* A call that the program makes meanwhile is that of a signal's handler, or the one before was
+ * left. */
 static __attribute__((noinline)) int forget_if_left(const void *end) {
     if (goes_on(kl_calls.end, end)) return 0;
     const kl_outside left = kl_calls, none = { 0 };
@@ -64,7 +69,9 @@ static __attribute__((noinline)) int forget_if_left(const void *end) {
 
 /* A function of the library that another one calls stands below it. */
 int kl_is_left(const void *end, const void *returns_to) {
-    return (uintptr_t)end < (uintptr_t)kl_calls.end && is_own((uintptr_t)returns_to) ? 0 : forget_if_left(end);
+    return (uintptr_t)end < (uintptr_t)kl_calls.end && is_own((uintptr_t)returns_to)
+               ? 0
+               : forget_if_left(end);
 }
 
 /* -- a call that goes on after a function of the user -- */
@@ -83,11 +90,13 @@ void kl_user_ends(kl_outside before) {
     kl_calls.end = before.end;
     if (before.end && kl_is_live()) kl_live_enters();
     kl_calls = before;
-    if (before.uncancelled) pthread_setcancelstate(PTHREAD_CANCEL_DISABLE, &kl_calls.cancelled_before);
+    if (before.uncancelled)
+        pthread_setcancelstate(PTHREAD_CANCEL_DISABLE, &kl_calls.cancelled_before);
     if (before.changing) kl_change_begins();
 }
 
-/* The tool has stopped the thread, which may be in a handler of a signal that interrupted a call. */
+/* The tool has stopped the thread, which may be in a handler of a signal that interrupted a
+ * call. */
 kl_outside kl_stopped_begins(const void *end) {
     const kl_outside before = kl_calls, stopped = { .end = end };
     kl_calls = stopped;

@@ -1,5 +1,6 @@
-/* The codes of native events. A code that the program sees is the process's: 0x40000000 and the place of the event among those whose codes were
- * asked for. The library of each thread numbers by itself, and the two are matched by the event's name. */
+/* The codes of native events. A code that the program sees is the process's: 0x40000000 and the
+ * place of the event among those whose codes were asked for. The library of each thread numbers by
+ * itself, and the two are matched by the event's name. */
 #include "posix.h"
 #include "codes.h"
 #include "events.h"
@@ -19,7 +20,8 @@
 #define UNKNOWN_CODE 0x7fffffffu
 #define FIRST_ROOM 16
 
-/* The names by their places, and a table of the places by the hashes of their names, each with 1 added. All under kl_lock. */
+/* The names by their places, and a table of the places by the hashes of their names, each with 1
+ * added. All under kl_lock. */
 static struct { char **names; uint32_t count, room, *places, slots; } known;
 
 static int is_native(uint32_t code) { return code >> 30 == 1; }
@@ -33,7 +35,8 @@ static uint32_t hash_of(const char *name) {
 /* The slot of a name, or the free one where it belongs. */
 static uint32_t slot_of(const char *name) {
     uint32_t slot = hash_of(name) & (known.slots - 1);
-    while (known.places[slot] && strcmp(known.names[known.places[slot] - 1], name)) slot = (slot + 1) & (known.slots - 1);
+    while (known.places[slot] && strcmp(known.names[known.places[slot] - 1], name))
+        slot = (slot + 1) & (known.slots - 1);
     return slot;
 }
 
@@ -50,7 +53,8 @@ static int grow(void) {
     known.places = places;
     known.slots = room * 4;
     known.room = room;
-    for (uint32_t place = 0; place < known.count; place++) known.places[slot_of(known.names[place])] = place + 1;
+    for (uint32_t place = 0; place < known.count; place++)
+        known.places[slot_of(known.names[place])] = place + 1;
     return 1;
 }
 
@@ -97,7 +101,9 @@ void kl_drop_codes(thread_state *t) {
     t->presets = NULL;
 }
 
-static uint32_t noted(const uint32_t *numbers, uint32_t count, uint32_t at) { return at < count ? numbers[at] : 0; }
+static uint32_t noted(const uint32_t *numbers, uint32_t count, uint32_t at) {
+    return at < count ? numbers[at] : 0;
+}
 
 /* Notes a number, with 1 added. A signal's handler finds the numbers at each moment. */
 int kl_note(uint32_t **numbers, uint32_t *count, uint32_t at, uint32_t number) {
@@ -122,7 +128,8 @@ static int match(thread_state *t, uint32_t place, uint32_t own) {
     return code == PAPI_OK ? kl_note(&c->outward, &c->outward_count, own, place) : code;
 }
 
-/* The code of the user event that stands for a preset, or the preset's own if there is none: the event has the preset's name without PAPI_. */
+/* The code of the user event that stands for a preset, or the preset's own if there is none: the
+ * event has the preset's name without PAPI_. */
 static int preset_inward(thread_state *t, int code, const kl_preset *preset, uint32_t *own) {
     const char *name = preset->name + sizeof "PAPI_" - 1;
     uint32_t place = (uint32_t)code & PAPI_PRESET_AND_MASK;
@@ -130,9 +137,11 @@ static int preset_inward(thread_state *t, int code, const kl_preset *preset, uin
     if (!t->presets) return PAPI_ENOMEM;
     if (!t->presets[place]) {
         uint32_t found = 0;
-        int answer = kistalub_name_to_code(&t->library, (const unsigned char *)name, strlen(name), &found);
+        int answer =
+            kistalub_name_to_code(&t->library, (const unsigned char *)name, strlen(name), &found);
         if (answer == PAPI_ENOMEM) return answer;
-        t->presets[place] = answer == PAPI_OK && IS_USER_DEFINED((int)found) ? found : (uint32_t)code;
+        t->presets[place] =
+            answer == PAPI_OK && IS_USER_DEFINED((int)found) ? found : (uint32_t)code;
     }
     *own = t->presets[place];
     return PAPI_OK;
@@ -162,7 +171,8 @@ int kl_code_outward(thread_state *t, uint32_t own, int *code) {
     int answer = PAPI_OK;
     if (found) place = found - 1;
     else {
-        answer = kistalub_code_to_name(&t->library, own, (unsigned char *)name, NAME_ROOM - 1, &length);
+        answer =
+            kistalub_code_to_name(&t->library, own, (unsigned char *)name, NAME_ROOM - 1, &length);
         answer = kl_ended(answer, name, NAME_ROOM - 1, length);
         pthread_mutex_lock(&kl_lock);
         if (answer == PAPI_OK) answer = mention(name, &place);

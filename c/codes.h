@@ -6,7 +6,8 @@
 
 #include <stdint.h>
 
-/* Inward: the code of the thread's library for a code of the process. Outward: back. PAPI_ENOMEM. */
+/* Inward: the code of the thread's library for a code of the process. Outward: back.
+ * PAPI_ENOMEM. */
 int kl_code_inward(thread_state *t, int code, uint32_t *own);
 int kl_code_outward(thread_state *t, uint32_t own, int *code);
 int kl_note(uint32_t **numbers, uint32_t *count, uint32_t at, uint32_t number);

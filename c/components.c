@@ -18,22 +18,37 @@
 #include <string.h>
 
 /* Both under kl_component_lock. */
-static struct { PAPI_component_info_t infos[MOST_COMPONENTS]; char pmus[MOST_COMPONENTS][PAPI_MAX_STR_LEN]; } known;
+static struct {
+    PAPI_component_info_t infos[MOST_COMPONENTS];
+    char pmus[MOST_COMPONENTS][PAPI_MAX_STR_LEN];
+} known;
 /* What the program disabled before PAPI_library_init, by numbers as bits and by names. */
-static struct { unsigned numbers; char names[MOST_COMPONENTS][PAPI_MAX_STR_LEN]; int name_count; } disabled;
+static struct {
+    unsigned numbers;
+    char names[MOST_COMPONENTS][PAPI_MAX_STR_LEN];
+    int name_count;
+} disabled;
 
-/* The component of processors has PAPI's name for it, by which programs look for it, and is found by that of the unit's file too. */
-static const struct { const char *unit, *papi, *brief; } PROCESSORS = { "cpu", "perf_event", "perf" };
+/* The component of processors has PAPI's name for it, by which programs look for it, and is found
+ * by that of the unit's file too. */
+static const struct {
+    const char *unit, *papi, *brief;
+} PROCESSORS = { "cpu", "perf_event", "perf" };
 
-static const char *papi_name(const char *name) { return strcmp(name, PROCESSORS.unit) ? name : PROCESSORS.papi; }
+static const char *papi_name(const char *name) {
+    return strcmp(name, PROCESSORS.unit) ? name : PROCESSORS.papi;
+}
 
 /* A part of what the unit's file says of a component. */
-int kl_component_text(thread_state *t, int component, uint32_t part, uint32_t place, char *text, size_t room) {
+int kl_component_text(thread_state *t, int component, uint32_t part, uint32_t place, char *text,
+                      size_t room) {
     uint64_t length = 0;
     if (component < 0) return PAPI_ENOCMP;
-    int code = kistalub_component(&t->library, (uint32_t)component, part, place, (unsigned char *)text, room - 1, &length);
+    int code = kistalub_component(&t->library, (uint32_t)component, part, place,
+                                  (unsigned char *)text, room - 1, &length);
     code = kl_ended(code, text, room - 1, length);
-    if (code == PAPI_OK && part == KISTALUB_COMPONENT_NAME && papi_name(text) != text) snprintf(text, room, "%s", PROCESSORS.papi);
+    if (code == PAPI_OK && part == KISTALUB_COMPONENT_NAME && papi_name(text) != text)
+        snprintf(text, room, "%s", PROCESSORS.papi);
     return code;
 }
 
@@ -53,17 +68,22 @@ static int is_any_disabled(void) {
 
 int kl_is_disabled(thread_state *t, int component) {
     char name[PAPI_MAX_STR_LEN];
-    if (!is_any_disabled() || kl_component_text(t, component, KISTALUB_COMPONENT_NAME, 0, name, sizeof name) != PAPI_OK || component >= MOST_COMPONENTS) return 0;
+    if (!is_any_disabled() ||
+        kl_component_text(t, component, KISTALUB_COMPONENT_NAME, 0, name, sizeof name) != PAPI_OK ||
+        component >= MOST_COMPONENTS)
+        return 0;
     pthread_mutex_lock(&kl_component_lock);
     int is = is_disabled(component, name);
     pthread_mutex_unlock(&kl_component_lock);
     return is;
 }
 
-/* PAPI_ENOEVNT where the component of an event is disabled. The code is that of the thread's library. */
+/* PAPI_ENOEVNT where the component of an event is disabled. The code is that of the thread's
+ * library. */
 int kl_check_enabled(thread_state *t, uint32_t own) {
     uint32_t component = 0;
-    if (!is_any_disabled() || kistalub_component_of(&t->library, own, &component) != PAPI_OK) return PAPI_OK;
+    if (!is_any_disabled() || kistalub_component_of(&t->library, own, &component) != PAPI_OK)
+        return PAPI_OK;
     return kl_is_disabled(t, (int)component) ? PAPI_ENOEVNT : PAPI_OK;
 }
 
@@ -71,7 +91,8 @@ int kl_check_enabled(thread_state *t, uint32_t own) {
 int kl_check_known(thread_state *t, const char *name) {
     uint32_t own = 0;
     if (!is_any_disabled()) return PAPI_OK;
-    int code = kistalub_name_to_code(&t->library, (const unsigned char *)name, kl_name_length(name), &own);
+    int code =
+        kistalub_name_to_code(&t->library, (const unsigned char *)name, kl_name_length(name), &own);
     return code == PAPI_OK ? kl_check_enabled(t, own) : PAPI_OK;
 }
 
@@ -87,12 +108,15 @@ static int presets_of(thread_state *t, uint32_t component) {
 }
 
 /* Says of a component what the model has. */
-static void describe(thread_state *t, int component, const char *name, const char *pmu, int presets) {
+static void describe(thread_state *t, int component, const char *name, const char *pmu,
+                     int presets) {
     PAPI_component_info_t *info = &known.infos[component];
     memset(info, 0, sizeof *info);
     snprintf(info->name, sizeof info->name, "%s", name);
-    snprintf(info->short_name, sizeof info->short_name, "%.*s", (int)sizeof info->short_name - 1, strcmp(name, PROCESSORS.papi) ? name : PROCESSORS.brief);
-    snprintf(info->description, sizeof info->description, "Modelled counters of the pmu %.90s", pmu);
+    snprintf(info->short_name, sizeof info->short_name, "%.*s", (int)sizeof info->short_name - 1,
+             strcmp(name, PROCESSORS.papi) ? name : PROCESSORS.brief);
+    snprintf(info->description, sizeof info->description, "Modelled counters of the pmu %.90s",
+             pmu);
     snprintf(info->version, sizeof info->version, "1.0");
     snprintf(info->support_version, sizeof info->support_version, "n/a");
     snprintf(info->kernel_version, sizeof info->kernel_version, "n/a");
@@ -110,14 +134,16 @@ static void describe(thread_state *t, int component, const char *name, const cha
     info->precise_intr = info->fast_counter_read = 1;
 }
 
-/* What may have changed since. Another thread may read what was given before: it is written only where it has. */
+/* What may have changed since. Another thread may read what was given before: it is written only
+ * where it has. */
 static void take_changes(int component, const char *name) {
     PAPI_component_info_t *info = &known.infos[component];
     int domain = kl_default_domain((uint32_t)component);
     if (info->default_domain != domain) info->default_domain = domain;
     if (info->disabled || !is_disabled(component, name)) return;
     info->disabled = PAPI_ECMP_DISABLED;
-    snprintf(info->disabled_reason, sizeof info->disabled_reason, "Disabled by PAPI_disable_component()");
+    snprintf(info->disabled_reason, sizeof info->disabled_reason,
+             "Disabled by PAPI_disable_component()");
 }
 
 /* Whether what is told of a component is that of this name and pmu. Under the lock. */
@@ -138,8 +164,10 @@ const PAPI_component_info_t *PAPI_get_component_info(int component) {
     int code;
     thread_state *t = kl_current_thread(&code);
     if (!t || component < 0 || component >= MOST_COMPONENTS) return NULL;
-    if (kl_component_text(t, component, KISTALUB_COMPONENT_NAME, 0, name, sizeof name) != PAPI_OK) return NULL;
-    if (kl_component_text(t, component, KISTALUB_COMPONENT_PMU, 0, pmu, sizeof pmu) != PAPI_OK) return NULL;
+    if (kl_component_text(t, component, KISTALUB_COMPONENT_NAME, 0, name, sizeof name) != PAPI_OK)
+        return NULL;
+    if (kl_component_text(t, component, KISTALUB_COMPONENT_PMU, 0, pmu, sizeof pmu) != PAPI_OK)
+        return NULL;
     int presets = is_known(component, name, pmu) ? 0 : presets_of(t, (uint32_t)component);
     if (presets < 0) return NULL;
     pthread_mutex_lock(&kl_component_lock);
@@ -164,7 +192,9 @@ int PAPI_get_component_index(const char *name) {
     char own[PAPI_MAX_STR_LEN];
     HERE(t);
     if (!name) RETURN(PAPI_EINVAL);
-    for (int component = 0; kl_component_text(t, component, KISTALUB_COMPONENT_NAME, 0, own, sizeof own) == PAPI_OK; component++)
+    for (int component = 0;
+         kl_component_text(t, component, KISTALUB_COMPONENT_NAME, 0, own, sizeof own) == PAPI_OK;
+         component++)
         if (!strcmp(own, papi_name(name))) RETURN(component);
     RETURN(PAPI_ENOCMP);
 }
@@ -191,7 +221,8 @@ int PAPI_disable_component_by_name(const char *name) {
     RETURN(has_room ? PAPI_OK : PAPI_ENOCMP);
 }
 
-/* The component of an event; a preset or user event that is not available belongs to the first, as all do in PAPI. */
+/* The component of an event; a preset or user event that is not available belongs to the first, as
+ * all do in PAPI. */
 int PAPI_get_event_component(int event) {
     CALL(PAPI_get_event_component);
     uint32_t code = 0, component = 0;
@@ -215,7 +246,9 @@ static int component_of_set(thread_state *t, int set) {
     if (code == PAPI_OK && events.count) {
         code = kistalub_component_of(&owner->library, events.codes[0], &component);
         if (code == PAPI_OK || code == PAPI_ENOEVNT) code = (int)component;
-    } else if (code == PAPI_OK) code = kl_set_of(owner, set)->component ? kl_set_of(owner, set)->component - 1 : PAPI_ENOCMP;
+    } else if (code == PAPI_OK)
+        code =
+            kl_set_of(owner, set)->component ? kl_set_of(owner, set)->component - 1 : PAPI_ENOCMP;
     kl_let_owner_go(owner);
     return code;
 }

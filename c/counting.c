@@ -16,15 +16,17 @@
 #include <stdint.h>
 #include <string.h>
 
-/* Up to n occurrences happen. If an event has a watch it is one, since what watches it comes before the next; in a program that runs under the tool what comes
- * next was done before the thread was stopped. None does in a call that a signal interrupted. */
+/* Up to n occurrences happen. If an event has a watch it is one, since what watches it comes before
+ * the next; in a program that runs under the tool what comes next was done before the thread was
+ * stopped. None does in a call that a signal interrupted. */
 static int run(thread_state *t, uint32_t n, uint32_t *consumed) {
     kistalub_passing passings[MOST_EVENTS];
     kistalub_fault fault = { 0, 0 };
     uint64_t told = 0;
     if (!kl_core_begins(t)) return PAPI_OK;
     kl_core_changes(t);
-    int code = kistalub_run(&t->library, t->is_watched && !kl_is_live() ? 1 : n, consumed, passings, MOST_EVENTS, &told, &fault);
+    int code = kistalub_run(&t->library, t->is_watched && !kl_is_live() ? 1 : n, consumed, passings,
+                            MOST_EVENTS, &told, &fault);
     kl_core_rests(t);
     t->happened += *consumed;
     kl_core_ends(t);
@@ -49,7 +51,8 @@ int kl_go(thread_state *t, uint32_t n, uint32_t *went) {
     return ended == PAPI_OK ? code : ended;
 }
 
-/* Nothing happens to a thread that has ended, nor in a handler of a signal that interrupted a function that changes something. */
+/* Nothing happens to a thread that has ended, nor in a handler of a signal that interrupted a
+ * function that changes something. */
 int kistalub_go(uint32_t n, uint32_t *went) {
     CALL(kistalub_go);
     uint32_t here_went = 0;
@@ -70,7 +73,8 @@ int kl_goes_on(thread_state *t) {
 /* What is asked of a set that counts. */
 typedef enum { TO_READ, TO_STOP, TO_ACCUM, TO_RESET, TO_START } set_operation;
 
-static int call_core(kistalub *library, uint32_t set, set_operation what, int64_t *values, uint32_t *count) {
+static int call_core(kistalub *library, uint32_t set, set_operation what, int64_t *values,
+                     uint32_t *count) {
     int code = PAPI_OK;
     switch (what) {
     case TO_START: return kistalub_start(library, set);
@@ -81,8 +85,11 @@ static int call_core(kistalub *library, uint32_t set, set_operation what, int64_
     return code == PAPI_OK && what == TO_ACCUM ? kistalub_reset(library, set) : code;
 }
 
-/* The answer to a handler of a signal that interrupted a call of the proved library: what was told last, as if the call was made before the other one. */
-static __attribute__((noinline)) int call_later(thread_state *t, kl_set *s, uint32_t set, set_operation what, int64_t *values, uint32_t *count) {
+/* The answer to a handler of a signal that interrupted a call of the proved library: what was told
+ * last, as if the call was made before the other one. */
+static __attribute__((noinline)) int call_later(thread_state *t, kl_set *s, uint32_t set,
+                                                set_operation what, int64_t *values,
+                                                uint32_t *count) {
     if (what == TO_START) return PAPI_EISRUN;
     if (what == TO_STOP && !s->runs) return PAPI_ENOTRUN;
     *count = what == TO_RESET ? 0 : s->event_count;
@@ -98,15 +105,18 @@ static __attribute__((noinline)) int call_later(thread_state *t, kl_set *s, uint
 }
 
 /* Keeps what was told last. What a handler asked for that interrupted the call came after it. */
-static void note(const thread_state *t, kl_set *s, uint32_t set, set_operation what, const int64_t *values, uint32_t count) {
+static void note(const thread_state *t, kl_set *s, uint32_t set, set_operation what,
+                 const int64_t *values, uint32_t count) {
     if (what == TO_START || what == TO_STOP) s->runs = what == TO_START;
     if ((t->signals.to_stop | t->signals.to_reset) >> set & 1) return;
     if (what == TO_READ || what == TO_STOP) memcpy(s->last, values, count * sizeof *values);
     else memset(s->last, 0, sizeof s->last);
 }
 
-/* Asks something of a set, which gives values or none. Inlined, what is asked is known where it is compiled. */
-static inline __attribute__((always_inline)) int ask(thread_state *owner, uint32_t set, set_operation what, int64_t *values, uint32_t *count) {
+/* Asks something of a set, which gives values or none. Inlined, what is asked is known where it is
+ * compiled. */
+static inline __attribute__((always_inline)) int
+ask(thread_state *owner, uint32_t set, set_operation what, int64_t *values, uint32_t *count) {
     if (set >= MOST_SETS) return PAPI_ENOEVST;
     kl_set *s = owner->sets[set];
     if (!kl_core_begins(owner)) return call_later(owner, s, set, what, values, count);
@@ -120,8 +130,10 @@ static inline __attribute__((always_inline)) int ask(thread_state *owner, uint32
 
 static int is_after_step(set_operation what) { return what != TO_START && what != TO_RESET; }
 
-/* Asks it of a set that is not the thread's own: of one of a thread that has ended, to which nothing happens any more, or of none. */
-static __attribute__((noinline)) int ask_elsewhere(thread_state *t, int set, set_operation what, int64_t *values, uint32_t *count) {
+/* Asks it of a set that is not the thread's own: of one of a thread that has ended, to which
+ * nothing happens any more, or of none. */
+static __attribute__((noinline)) int ask_elsewhere(thread_state *t, int set, set_operation what,
+                                                   int64_t *values, uint32_t *count) {
     thread_state *owner = kl_owner_of(t, set);
     int code = owner == t && is_after_step(what) ? kl_goes_on(t) : PAPI_OK;
     if (owner != t && what == TO_START && !kl_was_own(owner)) code = PAPI_ENOEVST;
@@ -131,12 +143,14 @@ static __attribute__((noinline)) int ask_elsewhere(thread_state *t, int set, set
 }
 
 /* Asks it after the step. The call is not made if the step met a fault. */
-static inline __attribute__((always_inline)) int ask_here(int set, set_operation what, int64_t *values, uint32_t *count) {
+static inline __attribute__((always_inline)) int ask_here(int set, set_operation what,
+                                                          int64_t *values, uint32_t *count) {
     int code;
     thread_state *t = kl_current_thread(&code);
     *count = 0;
     if (KL_RARELY(!t) && !kl_is_past()) return code;
-    if (!t || kl_set_number(t, set) == UINT32_MAX) return ask_elsewhere(t, set, what, values, count);
+    if (!t || kl_set_number(t, set) == UINT32_MAX)
+        return ask_elsewhere(t, set, what, values, count);
     if (is_after_step(what) && t->step) code = kl_goes_on(t);
     return code == PAPI_OK ? ask(t, kl_set_number(t, set), what, values, count) : code;
 }
@@ -166,7 +180,8 @@ int PAPI_reset(int set) {
     RETURN(ask_here(set, TO_RESET, none, &count));
 }
 
-_Static_assert(sizeof(long long) == sizeof(int64_t), "the library writes a program's values where they belong");
+_Static_assert(sizeof(long long) == sizeof(int64_t),
+               "the library writes a program's values where they belong");
 
 int kl_read(int set, long long *values) {
     uint32_t count;
@@ -192,7 +207,8 @@ int PAPI_accum(int set, long long *values) {
     uint32_t count = 0;
     if (!values) RETURN(PAPI_EINVAL);
     int code = ask_here(set, TO_ACCUM, more, &count);
-    for (uint32_t i = 0; code == PAPI_OK && i < count; i++) values[i] = (long long)((unsigned long long)values[i] + (unsigned long long)more[i]);
+    for (uint32_t i = 0; code == PAPI_OK && i < count; i++)
+        values[i] = (long long)((unsigned long long)values[i] + (unsigned long long)more[i]);
     RETURN(code);
 }
 

@@ -12,7 +12,8 @@
 #include <stdint.h>
 #include <string.h>
 
-/* The codes of native events that have umasks, without any of them: the component and the row of the event. */
+/* The codes of native events that have umasks, without any of them: the component and the row of
+ * the event. */
 #define ROW_CODES 0x60000000u
 #define ROW_SHIFT 20
 #define ROW_MASK 0xfffffu
@@ -20,9 +21,11 @@
 int kl_is_row(int event) { return ((uint32_t)event & 0xe0000000u) == ROW_CODES; }
 
 /* A part of what the unit's file says of a native event. */
-int kl_native_text(thread_state *t, native_place at, uint32_t part, uint32_t mask, char *text, size_t room) {
+int kl_native_text(thread_state *t, native_place at, uint32_t part, uint32_t mask, char *text,
+                   size_t room) {
     uint64_t length = 0;
-    int code = kistalub_native(&t->library, at.component, at.row, part, mask, (unsigned char *)text, room - 1, &length);
+    int code = kistalub_native(&t->library, at.component, at.row, part, mask, (unsigned char *)text,
+                               room - 1, &length);
     return kl_ended(code, text, room - 1, length);
 }
 
@@ -33,7 +36,9 @@ int kl_code_in_library(thread_state *t, int event, uint32_t *code) {
     if (!kl_is_row(event)) return kl_code_inward(t, event, code);
     int answer = kl_place_of(t, event, &at);
     if (answer == PAPI_OK) answer = kl_native_text(t, at, KISTALUB_ROW_NAME, 0, name, sizeof name);
-    if (answer == PAPI_OK) answer = kistalub_name_to_code(&t->library, (const unsigned char *)name, strlen(name), code);
+    if (answer == PAPI_OK)
+        answer =
+            kistalub_name_to_code(&t->library, (const unsigned char *)name, strlen(name), code);
     return answer;
 }
 
@@ -52,7 +57,8 @@ int kl_place_of(thread_state *t, int event, native_place *at) {
     return answer;
 }
 
-/* The code of the event in a place. One with umasks has a code of its own, since without a umask it may name no event that can be counted. */
+/* The code of the event in a place. One with umasks has a code of its own, since without a umask it
+ * may name no event that can be counted. */
 static int code_of_place(thread_state *t, native_place at, int *event) {
     char name[NAME_ROOM], masked[NAME_ROOM];
     int code = kl_native_text(t, at, KISTALUB_ROW_NAME, 0, name, sizeof name);
@@ -63,7 +69,8 @@ static int code_of_place(thread_state *t, native_place at, int *event) {
     return code;
 }
 
-/* The first native event of a component or of those after it that are not disabled, up to the last one. */
+/* The first native event of a component or of those after it that are not disabled, up to the last
+ * one. */
 static int first_from(thread_state *t, uint32_t component, uint32_t last, int *event) {
     for (; component <= last && kistalub_counters(&t->library, component) >= 0; component++) {
         const native_place at = { component, 0 };
@@ -101,7 +108,8 @@ static int next_mask(thread_state *t, int *event) {
     return code == PAPI_OK ? PAPI_event_name_to_code(name, event) : code;
 }
 
-/* Whether a modifier takes a preset, as PAPI_OK or PAPI_ENOEVNT: those of some kind, all that are available, or all. */
+/* Whether a modifier takes a preset, as PAPI_OK or PAPI_ENOEVNT: those of some kind, all that are
+ * available, or all. */
 static int taken(int event, int modifier) {
     if (modifier == PAPI_ENUM_FIRST || modifier == PAPI_ENUM_EVENTS) return PAPI_OK;
     if (modifier == PAPI_PRESET_ENUM_AVAIL) return PAPI_query_event(event);
@@ -110,7 +118,8 @@ static int taken(int event, int modifier) {
 
 /* The preset after this one that the modifier takes, or the first. */
 static int next_preset(int *event, int modifier) {
-    unsigned place = modifier == PAPI_ENUM_FIRST ? 0 : ((unsigned)*event & PAPI_PRESET_AND_MASK) + 1;
+    unsigned place =
+        modifier == PAPI_ENUM_FIRST ? 0 : ((unsigned)*event & PAPI_PRESET_AND_MASK) + 1;
     for (; place < PAPI_END_idx; place++) {
         int preset = (int)place | PAPI_PRESET_MASK, found = taken(preset, modifier);
         if (found == PAPI_OK) *event = preset;
@@ -119,13 +128,18 @@ static int next_preset(int *event, int modifier) {
     return PAPI_ENOEVNT;
 }
 
-/* The user event after this one that the modifier takes, or the first. They are of no kind, and all that there are can be counted. */
+/* The user event after this one that the modifier takes, or the first. They are of no kind, and all
+ * that there are can be counted. */
 static int next_user_event(thread_state *t, int *event, int modifier) {
     uint32_t code = 0;
-    int is_past = modifier == PAPI_ENUM_FIRST, takes = is_past || modifier == PAPI_ENUM_EVENTS || modifier == PAPI_PRESET_ENUM_AVAIL;
-    for (uint32_t row = 0; takes && kistalub_code_in_row(&t->library, row, &code) == PAPI_OK; row++) {
+    int is_past = modifier == PAPI_ENUM_FIRST,
+        takes = is_past || modifier == PAPI_ENUM_EVENTS || modifier == PAPI_PRESET_ENUM_AVAIL;
+    for (uint32_t row = 0; takes && kistalub_code_in_row(&t->library, row, &code) == PAPI_OK;
+         row++) {
         if (!IS_USER_DEFINED((int)code)) continue;
-        int found = !is_past ? PAPI_ENOEVNT : modifier == PAPI_PRESET_ENUM_AVAIL ? PAPI_query_event((int)code) : PAPI_OK;
+        int found = !is_past                             ? PAPI_ENOEVNT
+                    : modifier == PAPI_PRESET_ENUM_AVAIL ? PAPI_query_event((int)code)
+                                                         : PAPI_OK;
         if (found == PAPI_OK) *event = (int)code;
         if (found != PAPI_ENOEVNT) return found;
         is_past |= code == (uint32_t)*event;
@@ -136,10 +150,12 @@ static int next_user_event(thread_state *t, int *event, int modifier) {
 /* The preset or user event after this one that the modifier takes, or the first of them. */
 static int next_row(thread_state *t, int *event, int modifier) {
     if (modifier < PAPI_ENUM_EVENTS || modifier > PAPI_PRESET_ENUM_FP) return PAPI_EINVAL;
-    return IS_USER_DEFINED(*event) ? next_user_event(t, event, modifier) : next_preset(event, modifier);
+    return IS_USER_DEFINED(*event) ? next_user_event(t, event, modifier)
+                                   : next_preset(event, modifier);
 }
 
-/* The native event after this one, or the first, among those of the components from one to another. */
+/* The native event after this one, or the first, among those of the components from one to
+ * another. */
 static int native(thread_state *t, int *event, int modifier, uint32_t first, uint32_t last) {
     switch (modifier) {
     case PAPI_ENUM_FIRST: return first_from(t, first, last, event);
@@ -163,7 +179,11 @@ int PAPI_enum_cmp_event(int *event, int modifier, int component) {
     HERE(t);
     modifier = kl_modifier(modifier);
     if (!event) RETURN(PAPI_EINVAL);
-    if (component < 0 || kistalub_counters(&t->library, (uint32_t)component) < 0 || kl_is_disabled(t, component)) RETURN(PAPI_ENOCMP);
+    if (component < 0 || kistalub_counters(&t->library, (uint32_t)component) < 0 ||
+        kl_is_disabled(t, component))
+        RETURN(PAPI_ENOCMP);
     if (*event & PAPI_PRESET_MASK) RETURN(component ? PAPI_ENOCMP : next_row(t, event, modifier));
-    RETURN(*event & PAPI_NATIVE_MASK ? native(t, event, modifier, (uint32_t)component, (uint32_t)component) : PAPI_EINVAL);
+    RETURN(*event & PAPI_NATIVE_MASK
+               ? native(t, event, modifier, (uint32_t)component, (uint32_t)component)
+               : PAPI_EINVAL);
 }

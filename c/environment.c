@@ -20,7 +20,8 @@ int kl_number_named(const char *variable, uint32_t least, uint32_t most, uint32_
     errno = 0;
     unsigned long long number = isdigit((unsigned char)*digits) ? strtoull(digits, &end, 10) : 0;
     if (!end || *end || errno || number < least || number > most) {
-        fprintf(stderr, "papi: %s: not a number from %u to %u: %s\n", variable, (unsigned)least, (unsigned)most, digits);
+        fprintf(stderr, "papi: %s: not a number from %u to %u: %s\n", variable, (unsigned)least,
+                (unsigned)most, digits);
         return PAPI_ESYS;
     }
     *value = (uint32_t)number;

@@ -14,14 +14,22 @@
 #include <string.h>
 
 static const char *const messages[] = {
-    "No error", "Invalid argument", "Insufficient memory", "A System/C library call failed", "Not supported by component",
-    "Access to the counters was lost or interrupted", "Internal error, please send mail to the developers", "Event does not exist",
-    "Event exists, but cannot be counted due to hardware resource limits", "EventSet is currently not running",
-    "EventSet is currently counting", "No such EventSet available", "Event in argument is not a valid preset",
-    "Hardware does not support performance counters", "Unknown error code", "Permission level does not permit operation",
-    "PAPI hasn't been initialized yet", "Component Index isn't set", "Not supported", "Not implemented", "Buffer size exceeded",
-    "EventSet domain is not supported for the operation", "Invalid or missing event attributes", "Too many events or attributes",
-    "Bad combination of features", "Component containing event is disabled", "Delayed initialization component",
+    "No error", "Invalid argument", "Insufficient memory", "A System/C library call failed",
+    "Not supported by component",
+    "Access to the counters was lost or interrupted",
+    "Internal error, please send mail to the developers", "Event does not exist",
+    "Event exists, but cannot be counted due to hardware resource limits",
+    "EventSet is currently not running",
+    "EventSet is currently counting", "No such EventSet available",
+    "Event in argument is not a valid preset",
+    "Hardware does not support performance counters", "Unknown error code",
+    "Permission level does not permit operation",
+    "PAPI hasn't been initialized yet", "Component Index isn't set", "Not supported",
+    "Not implemented", "Buffer size exceeded",
+    "EventSet domain is not supported for the operation", "Invalid or missing event attributes",
+    "Too many events or attributes",
+    "Bad combination of features", "Component containing event is disabled",
+    "Delayed initialization component",
     "Event exists, but cannot be counted due to multiple passes required by hardware",
 };
 
@@ -29,7 +37,10 @@ static _Thread_local int last_error = PAPI_OK;
 /* The call of the program's handler that goes on: it is not called again. */
 static _Thread_local kl_hold handling;
 /* How much is said, and the program's handler, or NULL: the library's own. */
-static struct { atomic_int level; PAPI_debug_handler_t _Atomic handler; } debugging = { .level = PAPI_QUIET };
+static struct {
+    atomic_int level;
+    PAPI_debug_handler_t _Atomic handler;
+} debugging = { .level = PAPI_QUIET };
 
 static const char *message_of(int code) {
     const int most = (int)(sizeof messages / sizeof *messages);
@@ -47,7 +58,8 @@ void PAPI_perror(const char *msg) {
     fprintf(stderr, "%s\n", message_of(last_error));
 }
 
-/* The library's own handler: a line on standard error, unless it is to be quiet, and the end of the program if that is asked for. */
+/* The library's own handler: a line on standard error, unless it is to be quiet, and the end of the
+ * program if that is asked for. */
 static int own_handler(int code) {
     int asked = atomic_load(&debugging.level), system_error = errno;
     if (asked == PAPI_QUIET) return code;
@@ -62,7 +74,9 @@ static int own_handler(int code) {
 /* The answer of the program's handler, which may jump out. */
 static int call_handler(PAPI_debug_handler_t given, int code) {
     const kl_hold hold = KL_HOLD(1);
-    if (handling.is_handler && (uintptr_t)handling.end > (uintptr_t)hold.end && kl_goes_on_still(&handling)) return code;
+    if (handling.is_handler && (uintptr_t)handling.end > (uintptr_t)hold.end &&
+        kl_goes_on_still(&handling))
+        return code;
     kl_outside before = kl_user_begins();
     handling = hold;
     int answer = given(code);
@@ -86,7 +100,9 @@ int kl_get_debug(PAPI_debug_option_t *debug) {
 }
 
 int kl_set_debug(const PAPI_debug_option_t *debug) {
-    if (debug->level != PAPI_QUIET && debug->level != PAPI_VERB_ECONT && debug->level != PAPI_VERB_ESTOP) return PAPI_EINVAL;
+    if (debug->level != PAPI_QUIET && debug->level != PAPI_VERB_ECONT &&
+        debug->level != PAPI_VERB_ESTOP)
+        return PAPI_EINVAL;
     atomic_store(&debugging.level, debug->level);
     atomic_store(&debugging.handler, debug->handler == own_handler ? NULL : debug->handler);
     return PAPI_OK;

@@ -17,7 +17,9 @@
 static int code_named(thread_state *t, const char *name, int *event) {
     uint32_t own = 0;
     int code = kl_check_known(t, name);
-    if (code == PAPI_OK) code = kistalub_name_to_code(&t->library, (const unsigned char *)name, kl_name_length(name), &own);
+    if (code == PAPI_OK)
+        code = kistalub_name_to_code(&t->library, (const unsigned char *)name, kl_name_length(name),
+                                     &own);
     return code == PAPI_OK ? kl_code_outward(t, own, event) : code;
 }
 
@@ -43,7 +45,8 @@ int kl_name_in(thread_state *t, int event, char *name) {
     native_place at;
     if (kl_is_row(event)) {
         int found = kl_place_of(t, event, &at);
-        return found == PAPI_OK ? kl_native_text(t, at, KISTALUB_ROW_NAME, 0, name, NAME_ROOM) : found;
+        return found == PAPI_OK ? kl_native_text(t, at, KISTALUB_ROW_NAME, 0, name, NAME_ROOM)
+                                : found;
     }
     if (kl_preset_of(event)) {
         snprintf(name, NAME_ROOM, "%s", kl_preset_of(event)->name);
@@ -51,15 +54,19 @@ int kl_name_in(thread_state *t, int event, char *name) {
     }
     uint32_t own;
     int code = kl_code_in_library(t, event, &own);
-    if (code == PAPI_OK) code = kistalub_code_to_name(&t->library, own, (unsigned char *)name, NAME_ROOM - 1, &length);
+    if (code == PAPI_OK)
+        code =
+            kistalub_code_to_name(&t->library, own, (unsigned char *)name, NAME_ROOM - 1, &length);
     return kl_ended(code, name, NAME_ROOM - 1, length);
 }
 
 /* A part of what is told of an event, cut to the room that there is. */
-static int info_in(thread_state *t, uint32_t code, uint32_t part, uint32_t place, char *text, size_t room) {
+static int info_in(thread_state *t, uint32_t code, uint32_t part, uint32_t place, char *text,
+                   size_t room) {
     char whole[NAME_ROOM];
     uint64_t length = 0;
-    int answer = kistalub_info(&t->library, code, part, place, (unsigned char *)whole, sizeof whole - 1, &length);
+    int answer = kistalub_info(&t->library, code, part, place, (unsigned char *)whole,
+                               sizeof whole - 1, &length);
     answer = kl_ended(answer, whole, sizeof whole - 1, length);
     snprintf(text, room, "%s", whole);
     return answer;
@@ -80,7 +87,8 @@ int PAPI_event_code_to_name(int event, char *out) {
 static int query(thread_state *t, int event) {
     char name[NAME_ROOM];
     uint32_t own = 0, component = 0;
-    if (IS_PRESET(event) && (event & PAPI_PRESET_AND_MASK) >= PAPI_MAX_PRESET_EVENTS) return PAPI_ENOTPRESET;
+    if (IS_PRESET(event) && (event & PAPI_PRESET_AND_MASK) >= PAPI_MAX_PRESET_EVENTS)
+        return PAPI_ENOTPRESET;
     if (!(event & PAPI_PRESET_MASK)) return kl_name_in(t, event, name);
     int code = kl_code_in_library(t, event, &own);
     if (code == PAPI_OK) code = kistalub_component_of(&t->library, own, &component);
@@ -92,7 +100,8 @@ int PAPI_query_named_event(const char *name) {
     int event;
     HERE(t);
     if (!name) RETURN(PAPI_EINVAL);
-    RETURN(kl_preset_named(name, &event) == PAPI_OK ? query(t, event) : code_named(t, name, &event));
+    RETURN(kl_preset_named(name, &event) == PAPI_OK ? query(t, event)
+                                                    : code_named(t, name, &event));
 }
 
 int PAPI_query_event(int event) {
@@ -101,16 +110,19 @@ int PAPI_query_event(int event) {
     RETURN(query(t, event));
 }
 
-/* What the unit's file says of a native event. Where it has one umask, the description of that stands behind the event's own. */
+/* What the unit's file says of a native event. Where it has one umask, the description of that
+ * stands behind the event's own. */
 static int native_info(thread_state *t, native_place at, PAPI_event_info_t *info) {
     char name[NAME_ROOM], description[NAME_ROOM];
-    int code = kl_native_text(t, at, KISTALUB_ROW_DESCRIPTION, 0, info->long_descr, sizeof info->long_descr);
+    int code = kl_native_text(t, at, KISTALUB_ROW_DESCRIPTION, 0, info->long_descr,
+                              sizeof info->long_descr);
     info->component_index = (int)at.component;
     for (uint32_t mask = 0; code == PAPI_OK; mask++) {
         code = kl_native_text(t, at, KISTALUB_ROW_MASK, mask, name, sizeof name);
         if (code == PAPI_ENOEVNT) return PAPI_OK;
         if (code != PAPI_OK || strcmp(name, info->symbol)) continue;
-        code = kl_native_text(t, at, KISTALUB_ROW_MASK_DESCRIPTION, mask, description, sizeof description);
+        code = kl_native_text(t, at, KISTALUB_ROW_MASK_DESCRIPTION, mask, description,
+                              sizeof description);
         size_t n = strlen(info->long_descr);
         snprintf(info->long_descr + n, sizeof info->long_descr - n, ", masks:%s", description);
     }
@@ -120,10 +132,12 @@ static int native_info(thread_state *t, native_place at, PAPI_event_info_t *info
 /* The formula and the native events of a preset or a user event that is available. */
 static int formula_info(thread_state *t, uint32_t code, PAPI_event_info_t *info) {
     int answer = info_in(t, code, KISTALUB_DERIVED_TYPE, 0, info->derived, sizeof info->derived);
-    if (answer == PAPI_OK) answer = info_in(t, code, KISTALUB_FORMULA, 0, info->postfix, sizeof info->postfix);
+    if (answer == PAPI_OK)
+        answer = info_in(t, code, KISTALUB_FORMULA, 0, info->postfix, sizeof info->postfix);
     while (answer == PAPI_OK && info->count < PAPI_MAX_INFO_TERMS) {
         int native;
-        answer = info_in(t, code, KISTALUB_NATIVE, info->count, info->name[info->count], sizeof *info->name);
+        answer = info_in(t, code, KISTALUB_NATIVE, info->count, info->name[info->count],
+                         sizeof *info->name);
         if (answer != PAPI_OK || !info->name[info->count][0]) break;
         answer = code_named(t, info->name[info->count], &native);
         if (answer == PAPI_OK) info->code[info->count++] = (unsigned)native;
@@ -131,7 +145,8 @@ static int formula_info(thread_state *t, uint32_t code, PAPI_event_info_t *info)
     return answer;
 }
 
-/* What is told of a preset or a user event. A preset has PAPI's words, unless the preset file has others for it. */
+/* What is told of a preset or a user event. A preset has PAPI's words, unless the preset file has
+ * others for it. */
 static int derived_info(thread_state *t, PAPI_event_info_t *info) {
     const kl_preset *preset = kl_preset_of((int)info->event_code);
     uint32_t code = 0;
@@ -140,8 +155,11 @@ static int derived_info(thread_state *t, PAPI_event_info_t *info) {
         snprintf(info->long_descr, sizeof info->long_descr, "%s", preset->long_description);
         snprintf(info->short_descr, sizeof info->short_descr, "%s", preset->description);
         info->event_type = preset->kinds;
-        if (answer == PAPI_OK && !kl_is_modelled(preset)) answer = IS_USER_DEFINED((int)code) ? PAPI_OK : PAPI_ENOEVNT;
-    } else if (answer == PAPI_OK) answer = info_in(t, code, KISTALUB_DESCRIPTION, 0, info->long_descr, sizeof info->long_descr);
+        if (answer == PAPI_OK && !kl_is_modelled(preset))
+            answer = IS_USER_DEFINED((int)code) ? PAPI_OK : PAPI_ENOEVNT;
+    } else if (answer == PAPI_OK)
+        answer =
+            info_in(t, code, KISTALUB_DESCRIPTION, 0, info->long_descr, sizeof info->long_descr);
     if (answer == PAPI_OK) answer = formula_info(t, code, info);
     return preset && answer == PAPI_ENOEVNT ? PAPI_OK : answer;
 }
@@ -160,6 +178,8 @@ int PAPI_get_event_info(int event, PAPI_event_info_t *info) {
         answer = kl_place_of(t, event, &at);
         if (answer == PAPI_OK) answer = native_info(t, at, info);
     }
-    if (!info->short_descr[0]) snprintf(info->short_descr, sizeof info->short_descr, "%.*s", (int)sizeof info->short_descr - 1, info->long_descr);
+    if (!info->short_descr[0])
+        snprintf(info->short_descr, sizeof info->short_descr, "%.*s",
+                 (int)sizeof info->short_descr - 1, info->long_descr);
     RETURN(answer);
 }

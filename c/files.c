@@ -20,16 +20,20 @@ static int read_table(const char *path, text *into) {
 }
 
 /* Says which row of a table is faulty, if one is. */
-static int row_said(int code, const char *path, uint64_t row, const unsigned char *words, uint64_t length) {
+static int row_said(int code, const char *path, uint64_t row, const unsigned char *words,
+                    uint64_t length) {
     if (code == PAPI_OK && row == 0) return PAPI_OK;
-    if (code == PAPI_OK) fprintf(stderr, "papi: %s: row %llu: %.*s\n", path, (unsigned long long)row, (int)length, (const char *)words);
+    if (code == PAPI_OK)
+        fprintf(stderr, "papi: %s: row %llu: %.*s\n", path, (unsigned long long)row, (int)length,
+                (const char *)words);
     return code == PAPI_ENOMEM ? code : PAPI_ESYS;
 }
 
 static int check_unit(const kl_files *files) {
     unsigned char words[WORDS_ROOM];
     uint64_t row = 0, length = 0;
-    int code = kistalub_unit_fault(files->unit.bytes, files->unit.length, &row, words, sizeof words, &length);
+    int code = kistalub_unit_fault(files->unit.bytes, files->unit.length, &row, words, sizeof words,
+                                   &length);
     return row_said(code, files->unit_path, row, words, length);
 }
 
@@ -37,7 +41,8 @@ static int check_presets(const kl_files *files) {
     unsigned char words[WORDS_ROOM];
     uint64_t row = 0, length = 0;
     if (files->presets.length == 0) return PAPI_OK;
-    int code = kistalub_presets_fault(files->presets.bytes, files->presets.length, (const unsigned char *)files->cpu, strlen(files->cpu), &row,
+    int code = kistalub_presets_fault(files->presets.bytes, files->presets.length,
+                                      (const unsigned char *)files->cpu, strlen(files->cpu), &row,
                                       words, sizeof words, &length);
     if (code == PAPI_EINVAL) fprintf(stderr, "papi: the name of the cpu is not UTF-8\n");
     return row_said(code, files->presets_path, row, words, length);
@@ -63,14 +68,16 @@ void kl_free_files(kl_files *files) {
 }
 
 static int read_into(kl_files *files, const char *presets) {
-    if (!files->unit_path || !files->presets_path || !files->cpu || !files->streams) return PAPI_ENOMEM;
+    if (!files->unit_path || !files->presets_path || !files->cpu || !files->streams)
+        return PAPI_ENOMEM;
     int code = read_table(files->unit_path, &files->unit);
     if (code == PAPI_OK && presets) code = read_table(presets, &files->presets);
     if (code == PAPI_OK) code = check_unit(files);
     return code == PAPI_OK ? check_presets(files) : code;
 }
 
-int kl_read_files(const char *unit, const char *presets, const char *cpu, const char *streams, kl_files **made) {
+int kl_read_files(const char *unit, const char *presets, const char *cpu, const char *streams,
+                  kl_files **made) {
     kl_files *files = calloc(1, sizeof *files);
     if (!files) return PAPI_ENOMEM;
     files->holders = 1;

@@ -1,6 +1,8 @@
 /* All functions of papi.h, and those of kistalub.h that begin as they do, with what each does.
- * DOES_COUNT: it counts, tells the time, or waits: a handler of a signal may call it, or it makes such calls itself, and signals come meanwhile.
- * DOES_CHANGE: it changes what these look at, and signals wait. MAY_START: it may start or stop a set. */
+ * DOES_COUNT: it counts, tells the time, or waits: a handler of a signal may call it, or it makes
+ * such calls itself, and signals come meanwhile.
+ * DOES_CHANGE: it changes what these look at, and signals wait. MAY_START: it may start or stop a
+ * set. */
 #ifndef KL_FUNCTIONS_H
 #define KL_FUNCTIONS_H
 

@@ -1,5 +1,6 @@
-/* The caches of the modelled processor, as the environment names them: KISTALUB_CACHES has words `NAME=SIZE,WAYS,LINE` for l1d, l1i, l2 and l3, and
- * `NAME=ENTRIES,WAYS,PAGE` for dtlb and itlb, with spaces between them. */
+/* The caches of the modelled processor, as the environment names them: KISTALUB_CACHES has words
+ * `NAME=SIZE,WAYS,LINE` for l1d, l1i, l2 and l3, and `NAME=ENTRIES,WAYS,PAGE` for dtlb and itlb,
+ * with spaces between them. */
 #include "posix.h"
 #include "environment.h"
 #include "machine.h"
@@ -15,8 +16,10 @@
 #define NUMBERS 3
 
 static const struct { const char *name; int level, place, type, is_buffer; } parts[] = {
-    { "l1i", 0, 0, PAPI_MH_TYPE_INST, 0 },    { "l1d", 0, 1, PAPI_MH_TYPE_DATA, 0 },    { "l2", 1, 0, PAPI_MH_TYPE_UNIFIED, 0 },
-    { "l3", 2, 0, PAPI_MH_TYPE_UNIFIED, 0 },  { "itlb", 0, 0, PAPI_MH_TYPE_INST, 1 },   { "dtlb", 0, 1, PAPI_MH_TYPE_DATA, 1 },
+    { "l1i", 0, 0, PAPI_MH_TYPE_INST, 0 }, { "l1d", 0, 1, PAPI_MH_TYPE_DATA, 0 },
+    { "l2", 1, 0, PAPI_MH_TYPE_UNIFIED, 0 },
+    { "l3", 2, 0, PAPI_MH_TYPE_UNIFIED, 0 }, { "itlb", 0, 0, PAPI_MH_TYPE_INST, 1 },
+    { "dtlb", 0, 1, PAPI_MH_TYPE_DATA, 1 },
 };
 #define PARTS (sizeof parts / sizeof *parts)
 
@@ -29,7 +32,9 @@ static void take(PAPI_mh_info_t *into, size_t part, const int *numbers) {
         level->tlb[place] = buffer;
         return;
     }
-    PAPI_mh_cache_info_t cache = { parts[part].type | PAPI_MH_TYPE_WB | PAPI_MH_TYPE_LRU | PAPI_MH_TYPE_RW_ALLOC, size, line, size / line, ways };
+    PAPI_mh_cache_info_t cache = { parts[part].type | PAPI_MH_TYPE_WB | PAPI_MH_TYPE_LRU |
+                                       PAPI_MH_TYPE_RW_ALLOC,
+                                   size, line, size / line, ways };
     level->cache[place] = cache;
     if (into->levels <= parts[part].level) into->levels = parts[part].level + 1;
 }

@@ -1,4 +1,5 @@
-/* The high level: regions count the events that PAPI_EVENTS names. What they counted is written when the process ends. */
+/* The high level: regions count the events that PAPI_EVENTS names. What they counted is written
+ * when the process ends. */
 #include "posix.h"
 #include "calls.h"
 #include "high_level.h"
@@ -14,7 +15,8 @@
 #include <stdlib.h>
 #include <string.h>
 
-/* What regions count is chosen once, under kl_region_lock, and stays. The rest is under the lock. */
+/* What regions count is chosen once, under kl_region_lock, and stays. The rest is under the
+ * lock. */
 static counted_events counted;
 static struct { region_thread *threads; int is_begun; atomic_int has_failed; } regions;
 static _Thread_local region_thread *own;
@@ -88,7 +90,8 @@ static int begin_thread(uint32_t number) {
     return PAPI_OK;
 }
 
-/* A library that ended has taken the sets with it, and what the open regions counted: they do not end any more. */
+/* A library that ended has taken the sets with it, and what the open regions counted: they do not
+ * end any more. */
 static void take_library(unsigned generation) {
     if (own->generation == generation) return;
     own->generation = generation;
@@ -96,7 +99,9 @@ static void take_library(unsigned generation) {
     forget_sets(own);
 }
 
-static int has_sets(void) { return own && own->set_count && own->generation == atomic_load(&kl_generation); }
+static int has_sets(void) {
+    return own && own->set_count && own->generation == atomic_load(&kl_generation);
+}
 
 static void drop_set(int *set) {
     long long values[MOST_VALUES];
@@ -106,10 +111,12 @@ static void drop_set(int *set) {
     PAPI_destroy_eventset(set);
 }
 
-/* Ends the sets of the calling thread, so that it can count otherwise: also one that was being made. */
+/* Ends the sets of the calling thread, so that it can count otherwise: also one that was being
+ * made. */
 static void drop_sets(void) {
     if (!own) return;
-    for (int i = 0; i < MOST_GROUPS && own->generation == atomic_load(&kl_generation); i++) drop_set(&own->sets[i]);
+    for (int i = 0; i < MOST_GROUPS && own->generation == atomic_load(&kl_generation); i++)
+        drop_set(&own->sets[i]);
     if (own) forget_sets(own);
 }
 
@@ -123,13 +130,15 @@ void kl_regions_end(void) {
     unlock_regions();
 }
 
-/* The sets of the calling thread, one for each group. An event has another code in another library. A handler of a signal may have jumped out of this before. */
+/* The sets of the calling thread, one for each group. An event has another code in another library.
+ * A handler of a signal may have jumped out of this before. */
 static int make_sets(void) {
     for (int i = own->set_count; i < counted.group_count; i++) {
         drop_set(&own->sets[i]);
         int code = kl_make_region_set(counted.groups[i].component, &own->sets[i]);
         for (int e = 0; code == PAPI_OK && e < counted.event_count; e++)
-            if (counted.events[e].group == i) code = PAPI_add_named_event(own->sets[i], counted.events[e].name);
+            if (counted.events[e].group == i)
+                code = PAPI_add_named_event(own->sets[i], counted.events[e].name);
         if (code != PAPI_OK) return code;
         own->set_count = i + 1;
     }
@@ -167,7 +176,9 @@ static int read_values(long long *values) {
 /* The values since a region began, but of an event of the instant the value itself. */
 static void count(const region *r, const long long *now, long long *since) {
     for (int i = 0; i < kl_value_count(&counted); i++)
-        since[i] = i >= FIXED_VALUES && counted.events[i - FIXED_VALUES].is_instant ? now[i] : now[i] - r->values[i];
+        since[i] = i >= FIXED_VALUES && counted.events[i - FIXED_VALUES].is_instant
+                       ? now[i]
+                       : now[i] - r->values[i];
 }
 
 /* A new region, inside the one that is open. Under the lock. */
@@ -207,7 +218,8 @@ static region *open_region_of(const char *name) {
     return r && !strcmp(kl_region_name(&counted, r), name) ? r : NULL;
 }
 
-/* After a failure nothing more is counted or written. Each thread ends its sets at its next call. */
+/* After a failure nothing more is counted or written. Each thread ends its sets at its next
+ * call. */
 static int fail(int code) {
     kl_region_say("Error: ", PAPI_strerror(code) ? PAPI_strerror(code) : "");
     atomic_store(&regions.has_failed, 1);
@@ -221,8 +233,8 @@ static int has_failed(void) {
     return failed;
 }
 
-/* What the calling thread needs before its regions. The library is opened and the thread named before the lock is taken, so that no function of the user is
- * called under it. */
+/* What the calling thread needs before its regions. The library is opened and the thread named
+ * before the lock is taken, so that no function of the user is called under it. */
 static int prepare(void) {
     if (has_failed()) return PAPI_EMISC;
     int code = kl_begin_library();
@@ -260,7 +272,8 @@ int PAPI_hl_region_begin(const char *name) {
     RETURN(code == PAPI_OK ? begin_region(name) : code);
 }
 
-/* Notes the values of the innermost region: those of a reading, or where it ends. A handler that was called meanwhile may have ended it. Under the lock. */
+/* Notes the values of the innermost region: those of a reading, or where it ends. A handler that
+ * was called meanwhile may have ended it. Under the lock. */
 static int note_values(const char *name, const long long *now, int ends) {
     region *r = own ? open_region_of(name) : NULL;
     if (!r) return ends ? PAPI_EINVAL : PAPI_OK;

@@ -1,5 +1,6 @@
-/* Calls that go on after a function of the user: a handler, or the function that gives a thread's id. It may end the library, and it may jump out of the
- * call: by longjmp, or by an exception of C++. */
+/* Calls that go on after a function of the user: a handler, or the function that gives a thread's
+ * id. It may end the library, and it may jump out of the call: by longjmp, or by an exception of
+ * C++. */
 #define _GNU_SOURCE
 #include "holds.h"
 #include "papi.h"
@@ -20,11 +21,14 @@ int kl_on_another_stack(void) {
 /* A stack grows down: of those that stand no higher than this one each was left. */
 int kl_hold_on(thread_state *t, const kl_hold *hold) {
     int place = t->hold_count;
-    while (place > 0 && place <= MOST_HOLDS && (uintptr_t)t->holds[place - 1].end <= (uintptr_t)hold->end && !kl_on_another_stack()) place--;
+    while (place > 0 && place <= MOST_HOLDS &&
+           (uintptr_t)t->holds[place - 1].end <= (uintptr_t)hold->end && !kl_on_another_stack())
+        place--;
     if (place < MOST_HOLDS) t->holds[place] = *hold;
     t->hold_count = place + 1;
     atomic_signal_fence(memory_order_seq_cst);
-    if (place < MOST_HOLDS) t->holds[place] = *hold; /* a handler of a signal may have had the place in between */
+    /* A handler of a signal may have had the place in between. */
+    if (place < MOST_HOLDS) t->holds[place] = *hold;
     return place;
 }
 
@@ -38,18 +42,19 @@ int kl_let_go(thread_state *t, int place) {
 
 typedef struct { const kl_hold *hold; uintptr_t reached, place; int is_found; } search;
 
-/* The caller of the function that holds is found by the place where its own part of the stack ends, and by where it goes on. A handler of a signal may have another
- * stack, above or below. */
+/* The caller of the function that holds is found by the place where its own part of the stack ends,
+ * and by where it goes on. A handler of a signal may have another stack, above or below. */
 static _Unwind_Reason_Code look(struct _Unwind_Context *frame, void *data) {
     search *s = data;
     s->reached = _Unwind_GetCFA(frame);
     s->place = _Unwind_GetIP(frame);
-    s->is_found = s->reached == (uintptr_t)s->hold->end && s->place == (uintptr_t)s->hold->returns_to;
+    s->is_found =
+        s->reached == (uintptr_t)s->hold->end && s->place == (uintptr_t)s->hold->returns_to;
     return s->is_found ? _URC_END_OF_STACK : _URC_NO_REASON;
 }
 
-/* The way up ends at the place 0, or before at a function of the program without unwind tables. Then the end of the call's own part of the stack tells: where it
- * returns to stands there. */
+/* The way up ends at the place 0, or before at a function of the program without unwind tables.
+ * Then the end of the call's own part of the stack tells: where it returns to stands there. */
 static int stands_still(const kl_hold *hold) {
 #if defined __x86_64__
     return ((void *const *)hold->end)[-1] == hold->returns_to;
@@ -65,11 +70,15 @@ int kl_goes_on_still(const kl_hold *hold) {
     const uintptr_t end = (uintptr_t)hold->end;
     _Unwind_Backtrace(look, &s);
     if (s.is_found || !s.place) return s.is_found;
-    return ((end >= (uintptr_t)__builtin_frame_address(0) && end >= s.reached) || kl_on_another_stack()) && stands_still(hold);
+    return ((end >= (uintptr_t)__builtin_frame_address(0) && end >= s.reached) ||
+            kl_on_another_stack()) &&
+           stands_still(hold);
 }
 
 void kl_forget_jumps(thread_state *t) {
-    while (t->hold_count > 0 && t->hold_count <= MOST_HOLDS && !kl_goes_on_still(&t->holds[t->hold_count - 1])) t->hold_count--;
+    while (t->hold_count > 0 && t->hold_count <= MOST_HOLDS &&
+           !kl_goes_on_still(&t->holds[t->hold_count - 1]))
+        t->hold_count--;
 }
 
 int kl_in_handler(thread_state *t) {

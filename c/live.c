@@ -1,5 +1,6 @@
-/* What a program does while it runs, as the tool of Valgrind counts it: at each call of a thread whatever it did since its last call happens in the core, which
- * decides what is counted. The tool stops a thread early enough for each threshold. */
+/* What a program does while it runs, as the tool of Valgrind counts it: at each call of a thread
+ * whatever it did since its last call happens in the core, which decides what is counted. The tool
+ * stops a thread early enough for each threshold. */
 #include "posix.h"
 #include "../tools/valgrind/kinds.h"
 #include "../tools/valgrind/protocol.h"
@@ -19,15 +20,18 @@
 #include <stdlib.h>
 #include <string.h>
 
-/* Among so many instructions, and those of a block of code, the order of occurrences is evened out, where a set is multiplexed. */
+/* Among so many instructions, and those of a block of code, the order of occurrences is evened out,
+ * where a set is multiplexed. */
 #define TURN_INSTRUCTIONS 65536
-/* What the tool can't stop at is waited for by instructions, of which one makes at most so many occurrences. */
+/* What the tool can't stop at is waited for by instructions, of which one makes at most so many
+ * occurrences. */
 #define MOST_AT_ONCE 512
 
 int kl_runs_live;
 
 __attribute__((constructor)) static void begin(void) {
-    kl_runs_live = kl_ask(KL_HELLO, (uintptr_t)kl_first_byte, (uintptr_t)kl_end_byte, (uintptr_t)kl_live_stub) == KL_VERSION;
+    kl_runs_live = kl_ask(KL_HELLO, (uintptr_t)kl_first_byte, (uintptr_t)kl_end_byte,
+                          (uintptr_t)kl_live_stub) == KL_VERSION;
     if (kl_runs_live) kl_keep_begins();
 }
 
@@ -61,12 +65,14 @@ uint64_t kl_live_cycles(int of_all) {
 static void add_new(live_thread *live, const kl_amounts *seen, const kl_amounts *now) {
     for (uint64_t kinds = live->wanted; kinds; kinds &= kinds - 1) {
         int kind = __builtin_ctzll(kinds);
-        for (unsigned i = 0; i < live->codes[kind].count; i++) live->left[kind][i] += now->of[kind] - seen->of[kind];
+        for (unsigned i = 0; i < live->codes[kind].count; i++)
+            live->left[kind][i] += now->of[kind] - seen->of[kind];
     }
 }
 
-/* Takes what the thread did since its last call, and it happens. In a handler of thresholds time stands. A handler of a signal, or the tool, may have interrupted
- * this. The thread's state may be gone then, if a handler ended the library. */
+/* Takes what the thread did since its last call, and it happens. In a handler of thresholds time
+ * stands. A handler of a signal, or the tool, may have interrupted this. The thread's state may be
+ * gone then, if a handler ended the library. */
 static void take_new(thread_state *t, uint64_t address) {
     live_thread *live = t->live;
     const int stands = kl_in_handler(t);
@@ -90,18 +96,21 @@ static void catch_up(uint64_t address) {
 
 static int runs(thread_state *t, uint32_t set, uint32_t *bits) {
     *bits = 0;
-    return t->sets[set] && kistalub_state(&t->library, set, bits) == PAPI_OK && *bits & PAPI_RUNNING;
+    return t->sets[set] && kistalub_state(&t->library, set, bits) == PAPI_OK &&
+           *bits & PAPI_RUNNING;
 }
 
 static uint64_t kinds_of_set(thread_state *t, uint32_t set) {
     uint32_t codes[MOST_EVENTS];
     uint64_t count = 0, kinds = 0;
-    if (kistalub_list_events(&t->library, set, codes, MOST_EVENTS, &count) != PAPI_OK) return KL_ALL_KINDS;
+    if (kistalub_list_events(&t->library, set, codes, MOST_EVENTS, &count) != PAPI_OK)
+        return KL_ALL_KINDS;
     for (uint64_t i = 0; i < count && i < MOST_EVENTS; i++) kinds |= kl_kinds_of(t, codes[i]);
     return kinds;
 }
 
-/* Finds out what the thread's running sets count, from now on. The tool is told whether any does. */
+/* Finds out what the thread's running sets count, from now on. The tool is told whether any
+ * does. */
 static void note_sets(thread_state *t) {
     live_thread *live = t->live;
     uint32_t bits;
@@ -124,12 +133,15 @@ static void shorten(uint64_t *period, uint64_t to) {
     if (!*period || to < *period) *period = to;
 }
 
-/* The tool stops the thread before the event can pass its threshold, if all that is left to it were of one kind and as much of each. */
-static void stop_before(thread_state *t, uint32_t code, const kl_watch *w, int64_t value, kl_amounts *periods) {
+/* The tool stops the thread before the event can pass its threshold, if all that is left to it were
+ * of one kind and as much of each. */
+static void stop_before(thread_state *t, uint32_t code, const kl_watch *w, int64_t value,
+                        kl_amounts *periods) {
     uint64_t kinds = kl_kinds_of(t, code), left = w->threshold - (uint64_t)value % w->threshold;
     unsigned count = (unsigned)__builtin_popcountll(kinds);
     for (int kind = 0; kind < LINE_KINDS; kind++)
-        if (kinds & KL_BIT(kind)) shorten(&periods->of[kind == LOAD_HITS ? KL_LOADS : kind], left / count);
+        if (kinds & KL_BIT(kind))
+            shorten(&periods->of[kind == LOAD_HITS ? KL_LOADS : kind], left / count);
 }
 
 static void stop_before_all(thread_state *t, uint32_t set, kl_amounts *periods) {
@@ -140,11 +152,13 @@ static void stop_before_all(thread_state *t, uint32_t set, kl_amounts *periods) 
     if (kistalub_read(&t->library, set, values, MOST_EVENTS, &given) != PAPI_OK) return;
     for (uint64_t place = 0; place < count && place < given; place++) {
         const kl_watch *w = &t->sets[set]->watches[place];
-        if (w->threshold && (w->handled || w->profiled)) stop_before(t, codes[place], w, values[place], periods);
+        if (w->threshold && (w->handled || w->profiled))
+            stop_before(t, codes[place], w, values[place], periods);
     }
 }
 
-/* Says at what the tool stops the thread next. Instructions come last: they stand in for a kind that the tool can't stop at. */
+/* Says at what the tool stops the thread next. Instructions come last: they stand in for a kind
+ * that the tool can't stop at. */
 static void arm(thread_state *t) {
     live_thread *live = t->live;
     kl_amounts periods = { { 0 } };
@@ -154,15 +168,19 @@ static void arm(thread_state *t) {
     for (int kind = KL_KINDS - 1; kind >= 0; kind--) {
         uint64_t period = periods.of[kind];
         if (!period && !(live->armed & KL_BIT(kind))) continue;
-        if (kl_ask(KL_ARM, (uintptr_t)kind, period, 0)) live->armed = period ? live->armed | KL_BIT(kind) : live->armed & ~KL_BIT(kind);
-        else if (kind != KL_INSTRUCTIONS) shorten(&periods.of[KL_INSTRUCTIONS], period / MOST_AT_ONCE);
+        if (kl_ask(KL_ARM, (uintptr_t)kind, period, 0))
+            live->armed = period ? live->armed | KL_BIT(kind) : live->armed & ~KL_BIT(kind);
+        else if (kind != KL_INSTRUCTIONS)
+            shorten(&periods.of[KL_INSTRUCTIONS], period / MOST_AT_ONCE);
     }
-    if (live->is_in_turns || live->has_turn) kl_ask(KL_TURN, live->is_in_turns ? TURN_INSTRUCTIONS : 0, 0, 0);
+    if (live->is_in_turns || live->has_turn)
+        kl_ask(KL_TURN, live->is_in_turns ? TURN_INSTRUCTIONS : 0, 0, 0);
     live->has_turn = live->is_in_turns;
 }
 
 static int stops_anywhere(const thread_state *t) {
-    return t->live->armed || t->live->has_turn || (t->live->wanted && (t->is_watched || t->live->is_in_turns));
+    return t->live->armed || t->live->has_turn ||
+           (t->live->wanted && (t->is_watched || t->live->is_in_turns));
 }
 
 /* The thread goes back to the program. */

@@ -1,5 +1,7 @@
-/* Occurrences of a program that runs, handed over to its thread's library as numbers (docs/FORMATS.md, Occurrences as numbers). A handler of thresholds may jump out
- * between two calls of the core, so what has happened is taken off at once: what is left happens at the thread's next call. */
+/* Occurrences of a program that runs, handed over to its thread's library as numbers
+ * (docs/FORMATS.md, Occurrences as numbers). A handler of thresholds may jump out between two calls
+ * of the core, so what has happened is taken off at once: what is left happens at the thread's next
+ * call. */
 #include "posix.h"
 #include "../tools/valgrind/kinds.h"
 #include "calls.h"
@@ -26,13 +28,18 @@ typedef struct { uint64_t kinds, address, told; kistalub_passing passings[MOST_E
 typedef struct { uint64_t *left, portions, credit; event_code code; } turn;
 
 /* As much of it happens as does until thresholds are passed. MORE if others are to wait. */
-static inline int hand_over(thread_state *t, handing *h, uint64_t *left, uint32_t most, event_code code) {
-    const kistalub_occurrences what = { .address = h->address, .amount = *left < most ? (uint32_t)*left : most, .select = code.select, .umask = code.umask };
+static inline int hand_over(thread_state *t, handing *h, uint64_t *left, uint32_t most,
+                            event_code code) {
+    const kistalub_occurrences what = { .address = h->address,
+                                        .amount = *left < most ? (uint32_t)*left : most,
+                                        .select = code.select,
+                                        .umask = code.umask };
     uint32_t went = 0;
     int answer = kistalub_happen(&t->library, &what, &went, h->passings, MOST_EVENTS, &h->told);
     *left -= went;
     if (KL_RARELY(t->live->kept)) kl_keep_adds(t, &what, went);
-    if (answer == PAPI_EBUF || (answer == PAPI_OK && (h->told || went == MOST_AT_ONCE))) return MORE;
+    if (answer == PAPI_EBUF || (answer == PAPI_OK && (h->told || went == MOST_AT_ONCE)))
+        return MORE;
     return answer;
 }
 
@@ -54,7 +61,8 @@ static unsigned take_turns(live_thread *live, uint64_t kinds, turn *turns, uint6
     for (; kinds; kinds &= kinds - 1) {
         const int kind = __builtin_ctzll(kinds);
         for (unsigned i = 0; i < live->codes[kind].count; i++) {
-            uint64_t *left = &live->left[kind][i], portions = (*left + LARGEST_AMOUNT - 1) / LARGEST_AMOUNT;
+            uint64_t *left = &live->left[kind][i],
+                     portions = (*left + LARGEST_AMOUNT - 1) / LARGEST_AMOUNT;
             if (!portions) continue;
             turns[count++] = (turn){ left, portions, 0, live->codes[kind].of[i] };
             if (portions > *most) *most = portions;
@@ -82,10 +90,13 @@ static int happen_in_turns(thread_state *t, handing *h) {
 /* The core takes no more of the thread: it has had as many lines as there are stamps. */
 static void end(thread_state *t) {
     t->live->has_ended = 1;
-    fprintf(stderr, "papi: thread %u: nothing more is counted: %u lines of occurrences have happened\n", t->number, UINT32_MAX);
+    fprintf(stderr,
+            "papi: thread %u: nothing more is counted: %u lines of occurrences have happened\n",
+            t->number, UINT32_MAX);
 }
 
-/* A handler may jump out. PAPI_ENOINIT if one ended the library: the thread's state may be gone then. */
+/* A handler may jump out. PAPI_ENOINIT if one ended the library: the thread's state may be gone
+ * then. */
 static __attribute__((noinline)) int tell(thread_state *t, const handing *h) {
     const kl_hold hold = KL_HOLD(0);
     const int place = kl_hold_on(t, &hold);

@@ -1,5 +1,7 @@
-/* The memory of the proved library. In a program that runs under the tool it is no part of the C library's heap: the tool may stop a thread in the midst of malloc,
- * and what then happens in the core takes memory. c/build gives the proved library's heap these names in place of malloc, realloc and free. */
+/* The memory of the proved library. In a program that runs under the tool it is no part of the C
+ * library's heap: the tool may stop a thread in the midst of malloc, and what then happens in the
+ * core takes memory. c/build gives the proved library's heap these names in place of malloc,
+ * realloc and free. */
 #define _GNU_SOURCE
 #include "live.h"
 #include "locks.h"

@@ -1,5 +1,6 @@
-/* What happens while a set of a thread counts, kept in a file as lines of a stream: KISTALUB_KEEP has the number of the process and the path, where %t stands for the
- * number of the thread. It holds for that process alone. */
+/* What happens while a set of a thread counts, kept in a file as lines of a stream: KISTALUB_KEEP
+ * has the number of the process and the path, where %t stands for the number of the thread. It
+ * holds for that process alone. */
 #define _GNU_SOURCE
 #include "environment.h"
 #include "limits.h"
@@ -28,7 +29,9 @@ void kl_keep_begins(void) {
     const char *named = kl_variable("KISTALUB_KEEP");
     unsigned long long number = 0;
     int length = 0;
-    if (!named || sscanf(named, "%llu %n", &number, &length) != 1 || !length || number != (unsigned long long)getpid()) return;
+    if (!named || sscanf(named, "%llu %n", &number, &length) != 1 || !length ||
+        number != (unsigned long long)getpid())
+        return;
     path = named + length;
     process = getpid();
 }
@@ -91,10 +94,12 @@ void kl_keep_writes(thread_state *t) {
 }
 
 /* So many lines of the amount, as long as there is room in a stream. */
-static void add_lines(live_thread *live, const kistalub_occurrences *what, unsigned amount, uint32_t count) {
+static void add_lines(live_thread *live, const kistalub_occurrences *what, unsigned amount,
+                      uint32_t count) {
     char line[LONGEST_LINE];
-    const size_t length = (size_t)snprintf(line, sizeof line, "%u %02x %02x %c %u %llx\n", what->component, what->select, what->umask, what->kernel ? 'k' : 'u', amount,
-                                           (unsigned long long)what->address);
+    const size_t length = (size_t)snprintf(
+        line, sizeof line, "%u %02x %02x %c %u %llx\n", what->component, what->select, what->umask,
+        what->kernel ? 'k' : 'u', amount, (unsigned long long)what->address);
     for (; count && live->kept; count--) {
         if (live->kept->used + length > KEPT_ROOM) write_all(live);
         if (!live->kept) return;

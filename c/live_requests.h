@@ -7,12 +7,14 @@
 #include <stdint.h>
 
 /* A request to the tool: its answer, or 0 if there is none. */
-static inline uintptr_t kl_ask(unsigned request, uintptr_t first, uintptr_t second, uintptr_t third) {
+static inline uintptr_t kl_ask(unsigned request, uintptr_t first, uintptr_t second,
+                               uintptr_t third) {
 #if defined __x86_64__
     /* Valgrind's own sequence, which does nothing on a processor. */
     volatile uintptr_t words[6] = { KL_REQUEST + request, first, second, third, 0, 0 };
     uintptr_t answer = 0;
-    __asm__ volatile("rolq $3, %%rdi\n\trolq $13, %%rdi\n\trolq $61, %%rdi\n\trolq $51, %%rdi\n\txchgq %%rbx, %%rbx"
+    __asm__ volatile("rolq $3, %%rdi\n\trolq $13, %%rdi\n\trolq $61, %%rdi\n\trolq $51, "
+                     "%%rdi\n\txchgq %%rbx, %%rbx"
                      : "+d"(answer)
                      : "a"(words)
                      : "cc", "memory", "rdi");

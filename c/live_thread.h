@@ -17,29 +17,35 @@ typedef struct { uint64_t of[LINE_KINDS]; } kl_amounts;
 /* What a thread has of it. */
 typedef struct live_thread {
     const kind_codes *codes; /* of the kinds, by the unit */
-    kl_amounts counts[2]; /* the thread's counts up to which all has happened, but for what is left, and room for the next ones */
+    /* The thread's counts up to which all has happened, but for what is left, and room for the next
+     * ones. */
+    kl_amounts counts[2];
     int seen;             /* which of the two */
     uint64_t left[LINE_KINDS][MOST_CODES]; /* of kinds that are wanted, by their codes */
     uint64_t wanted;      /* the kinds that a running set counts; all if the stream is kept */
     int is_in_turns;      /* a running set is multiplexed */
     int has_turn;         /* the tool stops the thread when its turn is over */
-    int has_ended;        /* it has had as many lines as a thread may have, and nothing more happens */
+    /* It has had as many lines as a thread may have, and nothing more happens. */
+    int has_ended;
     uint64_t armed;       /* the kinds that stop the thread */
     struct kl_kept *kept; /* its kept stream, or NULL */
 } live_thread;
 
-/* live_codes.c: the codes that a unit's events have: those that tools/count tells, if it tells them of the unit's first component. Without its word they are those of
- * examples/recorded.unit. If its word is of another component nothing has a code. */
+/* live_codes.c: the codes that a unit's events have: those that tools/count tells, if it tells them
+ * of the unit's first component. Without its word they are those of examples/recorded.unit. If its
+ * word is of another component nothing has a code. */
 const kind_codes *kl_codes_of(kistalub *library);
 
-/* live_counts.c: what is left of these kinds happens at this address, kind after kind, or if a running set is multiplexed in turn. The core has been begun, and ends. A
- * handler may jump out. The thread's state may be gone afterwards, if a handler ended the library. */
+/* live_counts.c: what is left of these kinds happens at this address, kind after kind, or if a
+ * running set is multiplexed in turn. The core has been begun, and ends. A handler may jump out.
+ * The thread's state may be gone afterwards, if a handler ended the library. */
 void kl_happen(thread_state *t, uint64_t kinds, uint64_t address);
 
 /* live_kinds.c: the kinds that an event counts, by its code in the thread's library. */
 uint64_t kl_kinds_of(thread_state *t, uint32_t code);
 
-/* live_keep.c: the thread's stream that is kept, if it is. What happened is added as lines, which are then written. */
+/* live_keep.c: the thread's stream that is kept, if it is. What happened is added as lines, which
+ * are then written. */
 void kl_keep_begins(void);
 void kl_keep_opens(thread_state *t);
 void kl_keep_closes(thread_state *t);

@@ -21,7 +21,8 @@ pthread_mutex_t kl_heap_lock = PTHREAD_MUTEX_INITIALIZER;
 
 /* The order of locks.h. */
 static pthread_mutex_t *const in_order[] = {
-    &kl_region_lock, &kl_beginning, &kl_ended_lock, &kl_component_lock, &kl_machine_lock, &kl_asked_lock, &kl_stream_lock, &kl_kinds_lock, &kl_lock, &kl_heap_lock,
+    &kl_region_lock, &kl_beginning, &kl_ended_lock, &kl_component_lock, &kl_machine_lock,
+    &kl_asked_lock, &kl_stream_lock, &kl_kinds_lock, &kl_lock, &kl_heap_lock,
 };
 #define LOCKS (sizeof in_order / sizeof *in_order)
 
@@ -46,7 +47,8 @@ int kl_guard_forks(void (*child)(void)) {
 }
 
 int kl_no_cancellation(void) {
-    if (kl_calls.uncancelled++ == 0) pthread_setcancelstate(PTHREAD_CANCEL_DISABLE, &kl_calls.cancelled_before);
+    if (kl_calls.uncancelled++ == 0)
+        pthread_setcancelstate(PTHREAD_CANCEL_DISABLE, &kl_calls.cancelled_before);
     return 0;
 }
 
@@ -56,15 +58,16 @@ void kl_cancel_again(const int *unused) {
     kl_calls.uncancelled--; /* afterwards: a handler of a signal may jump out in between */
 }
 
-/* The program's locks: semaphores of 0 or 1, so that any thread may unlock one, as in PAPI. A fork and a handler that jumps out leave nothing of a thread that waits
- * for one. */
+/* The program's locks: semaphores of 0 or 1, so that any thread may unlock one, as in PAPI. A fork
+ * and a handler that jumps out leave nothing of a thread that waits for one. */
 static sem_t locks[PAPI_NUM_LOCK];
 
 __attribute__((constructor)) static void make_locks(void) {
     for (int i = 0; i < PAPI_NUM_LOCK; i++) sem_init(&locks[i], 0, 1);
 }
 
-/* In PAPI a thread that waits for a lock is not cancelled either. What was unlocked twice is locked once. */
+/* In PAPI a thread that waits for a lock is not cancelled either. What was unlocked twice is locked
+ * once. */
 int PAPI_lock(int lock) {
     CALL(PAPI_lock);
     NO_CANCELLATION;

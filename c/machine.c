@@ -41,8 +41,10 @@ static const struct { const char *front; int vendor; const char *name; } vendors
 
 /* The pmus of Intel's processors in libpfm4, each also with what follows an underscore. */
 static const char *const intel[] = {
-    "ix86arch", "p6", "pii", "ppro", "pm", "coreduo", "core", "atom", "netburst", "nhm", "wsm", "snb", "ivb", "hsw", "bdw", "skl", "skx",
-    "clx", "icl", "icx", "adl", "rpl", "spr", "emr", "slm", "glm", "tmt", "knl", "knm", "montecito", "itanium", "itanium2",
+    "ix86arch", "p6", "pii", "ppro", "pm", "coreduo", "core", "atom", "netburst", "nhm", "wsm",
+    "snb", "ivb", "hsw", "bdw", "skl", "skx",
+    "clx", "icl", "icx", "adl", "rpl", "spr", "emr", "slm", "glm", "tmt", "knl", "knm", "montecito",
+    "itanium", "itanium2",
 };
 
 /* The processor, and whether it is described. Under kl_machine_lock. */
@@ -89,7 +91,8 @@ const PAPI_hw_info_t *PAPI_get_hardware_info(void) {
     char pmu[PAPI_MAX_STR_LEN];
     int code;
     thread_state *t = kl_current_thread(&code);
-    if (!t || kl_component_text(t, 0, KISTALUB_COMPONENT_PMU, 0, pmu, sizeof pmu) != PAPI_OK) return NULL;
+    if (!t || kl_component_text(t, 0, KISTALUB_COMPONENT_PMU, 0, pmu, sizeof pmu) != PAPI_OK)
+        return NULL;
     pthread_mutex_lock(&kl_machine_lock);
     if (!machine.is_described) describe_hardware(&machine.hardware, pmu);
     machine.is_described = 1;
@@ -131,7 +134,8 @@ int PAPI_get_dmem_info(PAPI_dmem_info_t *dest) {
     return PAPI_OK;
 }
 
-/* Places for libraries. Where more are needed, those that were given out stay as long as the library: a program may read them. */
+/* Places for libraries. Where more are needed, those that were given out stay as long as the
+ * library: a program may read them. */
 typedef struct maps { struct maps *former; int room; PAPI_address_map_t each[]; } maps;
 
 /* The program and its libraries. Under kl_machine_lock. */
@@ -197,7 +201,9 @@ typedef struct { int is_first, count; } looked;
 static int take_object(struct dl_phdr_info *object, size_t size, void *seen) {
     (void)size;
     looked *l = seen;
-    const char *name = l->is_first ? loaded.executable.fullname : object->dlpi_name ? object->dlpi_name : "";
+    const char *name = l->is_first         ? loaded.executable.fullname
+                       : object->dlpi_name ? object->dlpi_name
+                                           : "";
     const char *slash = l->is_first ? strrchr(name, '/') : NULL;
     PAPI_address_map_t now;
     memset(&now, 0, sizeof now);

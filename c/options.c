@@ -27,9 +27,13 @@ atomic_uint kl_step;
 
 /* The settings of the process. */
 static struct {
-    atomic_uint slice, usual_slice;       /* of a multiplexed set in ticks: the one that is set, and that of the environment */
-    atomic_int domains[MOST_COMPONENTS];  /* of the sets that are made from now on, or bound to a component; 0 stands for PAPI_DOM_USER */
-    PAPI_itimer_option_t timer;           /* what PAPI_DEF_ITIMER was given: no timer runs here; under kl_lock */
+    /* Of a multiplexed set in ticks: the one that is set, and that of the environment. */
+    atomic_uint slice, usual_slice;
+    /* Of the sets that are made from now on, or bound to a component; 0 stands for
+     * PAPI_DOM_USER. */
+    atomic_int domains[MOST_COMPONENTS];
+    /* What PAPI_DEF_ITIMER was given: no timer runs here; under kl_lock. */
+    PAPI_itimer_option_t timer;
 } settings = { .slice = USUAL_SLICE, .usual_slice = USUAL_SLICE };
 
 int kl_default_domain(uint32_t component) {
@@ -53,7 +57,8 @@ int kl_options_begin(void) {
 
 /* PAPI_ENOCMP if the unit has no such component. */
 static int check_component(thread_state *t, int component) {
-    int counters = component < 0 ? PAPI_ENOCMP : kistalub_counters(&t->library, (uint32_t)component);
+    int counters =
+        component < 0 ? PAPI_ENOCMP : kistalub_counters(&t->library, (uint32_t)component);
     return counters < 0 ? counters : PAPI_OK;
 }
 
@@ -78,7 +83,9 @@ static int set_set_domain(thread_state *t, const PAPI_domain_option_t *o) {
 }
 
 /* The counters are each thread's own. */
-static int check_granularity(int granularity) { return granularity == PAPI_GRN_THR ? PAPI_OK : PAPI_EINVAL; }
+static int check_granularity(int granularity) {
+    return granularity == PAPI_GRN_THR ? PAPI_OK : PAPI_EINVAL;
+}
 
 static int set_default_granularity(thread_state *t, const PAPI_granularity_option_t *o) {
     if (o->granularity < PAPI_GRN_MIN || o->granularity > PAPI_GRN_MAX) return PAPI_EINVAL;
@@ -88,10 +95,12 @@ static int set_default_granularity(thread_state *t, const PAPI_granularity_optio
 
 static int set_set_granularity(thread_state *t, const PAPI_granularity_option_t *o) {
     if (o->granularity < PAPI_GRN_MIN || o->granularity > PAPI_GRN_MAX) return PAPI_EINVAL;
-    return kl_is_stopped(t, o->eventset) == PAPI_ENOEVST ? PAPI_ENOEVST : check_granularity(o->granularity);
+    return kl_is_stopped(t, o->eventset) == PAPI_ENOEVST ? PAPI_ENOEVST
+                                                         : check_granularity(o->granularity);
 }
 
-/* Nanoseconds as ticks of the stream, of which each is a cycle: at least one, and at most the longest slice. */
+/* Nanoseconds as ticks of the stream, of which each is a cycle: at least one, and at most the
+ * longest slice. */
 static uint32_t ticks_of(int ns) {
     uint64_t ticks = (uint64_t)ns * kl_mhz() / 1000;
     return ticks < 1 ? 1 : ticks > LONGEST_SLICE ? LONGEST_SLICE : (uint32_t)ticks;
@@ -120,7 +129,8 @@ static int multiplex(thread_state *t, PAPI_multiplex_option_t *o) {
     return PAPI_OK;
 }
 
-/* Takes an interval for the sets that are multiplexed from now on, and says which one it has become. 0 stands for that of the environment. */
+/* Takes an interval for the sets that are multiplexed from now on, and says which one it has
+ * become. 0 stands for that of the environment. */
 static int set_default_slice(int *ns) {
     if (*ns < 0) return PAPI_EINVAL;
     uint32_t slice = *ns ? ticks_of(*ns) : atomic_load(&settings.usual_slice);
@@ -149,7 +159,8 @@ static int set_option(thread_state *t, int option, PAPI_option_t *o) {
     case PAPI_DEF_MPX_NS: return set_default_slice(&o->multiplex.ns);
     case PAPI_DEF_ITIMER_NS: return set_default_slice(&o->itimer.ns);
     case PAPI_DEF_ITIMER: return set_timer(&o->itimer);
-    case PAPI_INHERIT: return kl_is_stopped(t, o->inherit.eventset) == PAPI_ENOEVST ? PAPI_ENOEVST : PAPI_ECMP;
+    case PAPI_INHERIT:
+        return kl_is_stopped(t, o->inherit.eventset) == PAPI_ENOEVST ? PAPI_ENOEVST : PAPI_ECMP;
     case PAPI_ATTACH:
     case PAPI_DETACH:
     case PAPI_CPU_ATTACH:
@@ -160,7 +171,8 @@ static int set_option(thread_state *t, int option, PAPI_option_t *o) {
     }
 }
 
-/* What the model has no meaning for answers PAPI_ENOSUPP, and what only PAPI_get_opt knows PAPI_EINVAL. */
+/* What the model has no meaning for answers PAPI_ENOSUPP, and what only PAPI_get_opt knows
+ * PAPI_EINVAL. */
 int PAPI_set_opt(int option, PAPI_option_t *o) {
     CALL(PAPI_set_opt);
     if (option == PAPI_DEBUG) RETURN(o ? kl_set_debug(&o->debug) : PAPI_EINVAL);
@@ -237,15 +249,20 @@ static int get_hardware(PAPI_option_t *o) {
 static int get_option(thread_state *t, int option, PAPI_option_t *o) {
     switch (option) {
     case PAPI_MULTIPLEX: return get_multiplex(t, &o->multiplex);
-    case PAPI_DEF_MPX_NS: o->multiplex.ns = nanoseconds_of(atomic_load(&settings.slice)); return PAPI_OK;
-    case PAPI_DEF_ITIMER_NS: o->itimer.ns = nanoseconds_of(atomic_load(&settings.slice)); return PAPI_OK;
+    case PAPI_DEF_MPX_NS:
+        o->multiplex.ns = nanoseconds_of(atomic_load(&settings.slice));
+        return PAPI_OK;
+    case PAPI_DEF_ITIMER_NS:
+        o->itimer.ns = nanoseconds_of(atomic_load(&settings.slice));
+        return PAPI_OK;
     case PAPI_DEF_ITIMER: return get_timer(&o->itimer);
     case PAPI_PRELOAD: return get_preload(&o->preload);
     case PAPI_EXEINFO: return get_executable(o);
     case PAPI_HWINFO: return get_hardware(o);
     case PAPI_INHERIT: return get_of_set(t, o->inherit.eventset, 0, &o->inherit.inherit);
     case PAPI_DOMAIN: return get_domain(t, &o->domain);
-    case PAPI_GRANUL: return get_of_set(t, o->granularity.eventset, PAPI_GRN_THR, &o->granularity.granularity);
+    case PAPI_GRANUL:
+        return get_of_set(t, o->granularity.eventset, PAPI_GRN_THR, &o->granularity.granularity);
     case PAPI_ATTACH:
     case PAPI_DETACH:
     case PAPI_CPU_ATTACH: return PAPI_ENOSUPP;
@@ -320,7 +337,8 @@ int PAPI_multiplex_init(void) {
 
 int PAPI_set_multiplex(int set) {
     CALL(PAPI_set_multiplex);
-    PAPI_option_t o = { .multiplex = { .eventset = set, .ns = 0, .flags = PAPI_MULTIPLEX_DEFAULT } };
+    PAPI_option_t o = { .multiplex = {
+                            .eventset = set, .ns = 0, .flags = PAPI_MULTIPLEX_DEFAULT } };
     RETURN(PAPI_set_opt(PAPI_MULTIPLEX, &o));
 }
 

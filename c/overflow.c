@@ -39,7 +39,8 @@ void kl_forget_set(thread_state *t, kl_set *s) {
 }
 
 /* Calls the handler of a set. It may jump out. */
-static void call_handler(thread_state *t, const kl_set *s, unsigned long long address, long long vector) {
+static void call_handler(thread_state *t, const kl_set *s, unsigned long long address,
+                         long long vector) {
     const kl_hold hold = KL_HOLD(1);
     PAPI_overflow_handler_t handler = s->handler;
     if (!handler) return;
@@ -50,7 +51,8 @@ static void call_handler(thread_state *t, const kl_set *s, unsigned long long ad
     kl_let_go(t, place);
 }
 
-/* Tells of the thresholds that were passed at one occurrence: set after set, its profiles first. A handler may end the library. */
+/* Tells of the thresholds that were passed at one occurrence: set after set, its profiles first. A
+ * handler may end the library. */
 void kl_tell(thread_state *t, const kistalub_passing *passings, uint64_t told) {
     for (uint64_t i = 0; i < told && !t->has_left;) {
         uint32_t set = passings[i].set;
@@ -93,12 +95,14 @@ int kl_set_threshold(thread_state *t, int set, uint32_t event, int threshold, kl
     return code;
 }
 
-static int set_handler(thread_state *t, int set, int event, int threshold, PAPI_overflow_handler_t handler) {
+static int set_handler(thread_state *t, int set, int event, int threshold,
+                       PAPI_overflow_handler_t handler) {
     uint32_t own = 0;
     kl_watch *w = NULL;
     int code = kl_find_watch(t, set, event, &own, &w);
     if (code != PAPI_OK) return code;
-    if (threshold < 0 || (threshold > 0 && !handler) || (threshold == 0 && !w->handled)) return PAPI_EINVAL;
+    if (threshold < 0 || (threshold > 0 && !handler) || (threshold == 0 && !w->handled))
+        return PAPI_EINVAL;
     code = kl_set_threshold(t, set, own, threshold, w);
     if (code != PAPI_OK || threshold == 0) return code;
     w->handled = 1;
@@ -107,7 +111,8 @@ static int set_handler(thread_state *t, int set, int event, int threshold, PAPI_
     return PAPI_OK;
 }
 
-/* A set has one handler, which is called for each of its events that has a threshold. The flags say nothing here. */
+/* A set has one handler, which is called for each of its events that has a threshold. The flags say
+ * nothing here. */
 int PAPI_overflow(int set, int event, int threshold, int flags, PAPI_overflow_handler_t handler) {
     CALL(PAPI_overflow);
     (void)flags;

@@ -1,5 +1,6 @@
-/* PAPI's presets: the names, descriptions and kinds that PAPI has for them. The model has some of them; a program gets another one if the preset file has a
- * user event of its name without PAPI_ (codes.c). */
+/* PAPI's presets: the names, descriptions and kinds that PAPI has for them. The model has some of
+ * them; a program gets another one if the preset file has a user event of its name without PAPI_
+ * (codes.c). */
 #include "posix.h"
 #include "papi.h"
 #include "presets.h"
@@ -20,7 +21,8 @@
 #define L3 PAPI_PRESET_BIT_L3
 #define TLB PAPI_PRESET_BIT_TLB
 #define FP PAPI_PRESET_BIT_FP
-#define PRESET(name, description, long_description, kinds) [name##_idx] = { #name, description, long_description, kinds }
+#define PRESET(name, description, long_description, kinds) \
+    [name##_idx] = { #name, description, long_description, kinds }
 
 /* Each in the place that its code has: papiStdEventDefs.h. */
 static const kl_preset presets[PAPI_END_idx] = {
@@ -34,8 +36,10 @@ static const kl_preset presets[PAPI_END_idx] = {
     PRESET(PAPI_L2_TCM, "L2 cache misses", "Level 2 cache misses", CACH | L2),
     PRESET(PAPI_L3_TCM, "L3 cache misses", "Level 3 cache misses", CACH | L3),
     PRESET(PAPI_CA_SNP, "Snoop Requests", "Requests for a snoop", CACH),
-    PRESET(PAPI_CA_SHR, "Ex Access shared CL", "Requests for exclusive access to shared cache line", CACH),
-    PRESET(PAPI_CA_CLN, "Ex Access clean CL", "Requests for exclusive access to clean cache line", CACH),
+    PRESET(PAPI_CA_SHR, "Ex Access shared CL", "Requests for exclusive access to shared cache line",
+           CACH),
+    PRESET(PAPI_CA_CLN, "Ex Access clean CL", "Requests for exclusive access to clean cache line",
+           CACH),
     PRESET(PAPI_CA_INV, "Cache ln invalid", "Requests for cache line invalidation", CACH),
     PRESET(PAPI_CA_ITV, "Cache ln intervene", "Requests for cache line intervention", CACH),
     PRESET(PAPI_L3_LDM, "L3 load misses", "Level 3 load misses", CACH | L3),
@@ -45,7 +49,8 @@ static const kl_preset presets[PAPI_END_idx] = {
     PRESET(PAPI_FPU_IDL, "FPU idle cycles", "Cycles floating point units are idle", IDL | FP),
     PRESET(PAPI_LSU_IDL, "L/SU idle cycles", "Cycles load/store units are idle", IDL | MEM),
     PRESET(PAPI_TLB_DM, "Data TLB misses", "Data translation lookaside buffer misses", TLB),
-    PRESET(PAPI_TLB_IM, "Instr TLB misses", "Instruction translation lookaside buffer misses", TLB | INS),
+    PRESET(PAPI_TLB_IM, "Instr TLB misses", "Instruction translation lookaside buffer misses",
+           TLB | INS),
     PRESET(PAPI_TLB_TL, "Total TLB misses", "Total translation lookaside buffer misses", TLB),
     PRESET(PAPI_L1_LDM, "L1 load misses", "Level 1 load misses", CACH | L1),
     PRESET(PAPI_L1_STM, "L1 store misses", "Level 1 store misses", CACH | L1),
@@ -70,8 +75,10 @@ static const kl_preset presets[PAPI_END_idx] = {
     PRESET(PAPI_BR_CN, "Cond branch", "Conditional branch instructions", BR | CND),
     PRESET(PAPI_BR_TKN, "Cond branch taken", "Conditional branch instructions taken", BR | CND),
     PRESET(PAPI_BR_NTK, "Cond br not taken", "Conditional branch instructions not taken", BR | CND),
-    PRESET(PAPI_BR_MSP, "Cond br mspredictd", "Conditional branch instructions mispredicted", BR | CND),
-    PRESET(PAPI_BR_PRC, "Cond br predicted", "Conditional branch instructions correctly predicted", BR | CND),
+    PRESET(PAPI_BR_MSP, "Cond br mspredictd", "Conditional branch instructions mispredicted",
+           BR | CND),
+    PRESET(PAPI_BR_PRC, "Cond br predicted", "Conditional branch instructions correctly predicted",
+           BR | CND),
     PRESET(PAPI_FMA_INS, "FMAs completed", "FMA instructions completed", INS | FP),
     PRESET(PAPI_TOT_IIS, "Instr issued", "Instructions issued", INS),
     PRESET(PAPI_TOT_INS, "Instr completed", "Instructions completed", INS),
@@ -80,7 +87,8 @@ static const kl_preset presets[PAPI_END_idx] = {
     PRESET(PAPI_LD_INS, "Loads", "Load instructions", MEM),
     PRESET(PAPI_SR_INS, "Stores", "Store instructions", MEM),
     PRESET(PAPI_BR_INS, "Branches", "Branch instructions", BR),
-    PRESET(PAPI_VEC_INS, "Vector/SIMD instr", "Vector/SIMD instructions (could include integer)", MSC),
+    PRESET(PAPI_VEC_INS, "Vector/SIMD instr", "Vector/SIMD instructions (could include integer)",
+           MSC),
     PRESET(PAPI_RES_STL, "Stalled res cycles", "Cycles stalled on any resource", IDL | MSC),
     PRESET(PAPI_FP_STAL, "Stalled FPU cycles", "Cycles the FP unit(s) are stalled", IDL | FP),
     PRESET(PAPI_TOT_CYC, "Total cycles", "Total cycles", MSC),
@@ -100,9 +108,12 @@ static const kl_preset presets[PAPI_END_idx] = {
     PRESET(PAPI_L1_ICH, "L1I cache hits", "Level 1 instruction cache hits", CACH | L1 | INS),
     PRESET(PAPI_L2_ICH, "L2I cache hits", "Level 2 instruction cache hits", CACH | L2 | INS),
     PRESET(PAPI_L3_ICH, "L3I cache hits", "Level 3 instruction cache hits", CACH | L3 | INS),
-    PRESET(PAPI_L1_ICA, "L1I cache accesses", "Level 1 instruction cache accesses", CACH | L1 | INS),
-    PRESET(PAPI_L2_ICA, "L2I cache accesses", "Level 2 instruction cache accesses", CACH | L2 | INS),
-    PRESET(PAPI_L3_ICA, "L3I cache accesses", "Level 3 instruction cache accesses", CACH | L3 | INS),
+    PRESET(PAPI_L1_ICA, "L1I cache accesses", "Level 1 instruction cache accesses",
+           CACH | L1 | INS),
+    PRESET(PAPI_L2_ICA, "L2I cache accesses", "Level 2 instruction cache accesses",
+           CACH | L2 | INS),
+    PRESET(PAPI_L3_ICA, "L3I cache accesses", "Level 3 instruction cache accesses",
+           CACH | L3 | INS),
     PRESET(PAPI_L1_ICR, "L1I cache reads", "Level 1 instruction cache reads", CACH | L1 | INS),
     PRESET(PAPI_L2_ICR, "L2I cache reads", "Level 2 instruction cache reads", CACH | L2 | INS),
     PRESET(PAPI_L3_ICR, "L3I cache reads", "Level 3 instruction cache reads", CACH | L3 | INS),
@@ -127,17 +138,27 @@ static const kl_preset presets[PAPI_END_idx] = {
     PRESET(PAPI_FSQ_INS, "FPU square root", "Floating point square root instructions", INS | FP),
     PRESET(PAPI_FNV_INS, "FPU inverse", "Floating point inverse instructions", INS | FP),
     PRESET(PAPI_FP_OPS, "FP operations", "Floating point operations", INS | FP),
-    PRESET(PAPI_SP_OPS, "SP operations", "Floating point operations; optimized to count scaled single precision vector operations", INS | FP),
-    PRESET(PAPI_DP_OPS, "DP operations", "Floating point operations; optimized to count scaled double precision vector operations", INS | FP),
-    PRESET(PAPI_VEC_SP, "SP Vector/SIMD instr", "Single precision vector/SIMD instructions", INS | FP),
-    PRESET(PAPI_VEC_DP, "DP Vector/SIMD instr", "Double precision vector/SIMD instructions", INS | FP),
+    PRESET(
+        PAPI_SP_OPS, "SP operations",
+        "Floating point operations; optimized to count scaled single precision vector operations",
+        INS | FP),
+    PRESET(
+        PAPI_DP_OPS, "DP operations",
+        "Floating point operations; optimized to count scaled double precision vector operations",
+        INS | FP),
+    PRESET(PAPI_VEC_SP, "SP Vector/SIMD instr", "Single precision vector/SIMD instructions",
+           INS | FP),
+    PRESET(PAPI_VEC_DP, "DP Vector/SIMD instr", "Double precision vector/SIMD instructions",
+           INS | FP),
     PRESET(PAPI_REF_CYC, "Reference cycles", "Reference clock cycles", MSC),
 };
 
 /* tools/make_presets: begin */
 static const int modelled[] = {
-    PAPI_L1_DCM, PAPI_L1_ICM, PAPI_L2_DCM, PAPI_L2_ICM, PAPI_L1_TCM, PAPI_L2_TCM, PAPI_L3_TCM, PAPI_TLB_DM, PAPI_TLB_IM, PAPI_L1_LDM,
-    PAPI_L1_STM, PAPI_BR_UCN, PAPI_BR_CN, PAPI_BR_TKN, PAPI_BR_NTK, PAPI_BR_MSP, PAPI_BR_PRC, PAPI_TOT_INS, PAPI_LD_INS, PAPI_SR_INS,
+    PAPI_L1_DCM, PAPI_L1_ICM, PAPI_L2_DCM, PAPI_L2_ICM, PAPI_L1_TCM, PAPI_L2_TCM, PAPI_L3_TCM,
+    PAPI_TLB_DM, PAPI_TLB_IM, PAPI_L1_LDM,
+    PAPI_L1_STM, PAPI_BR_UCN, PAPI_BR_CN, PAPI_BR_TKN, PAPI_BR_NTK, PAPI_BR_MSP, PAPI_BR_PRC,
+    PAPI_TOT_INS, PAPI_LD_INS, PAPI_SR_INS,
     PAPI_BR_INS, PAPI_RES_STL, PAPI_TOT_CYC, PAPI_LST_INS, PAPI_FP_OPS, PAPI_REF_CYC,
 };
 /* tools/make_presets: end */
@@ -155,7 +176,8 @@ const kl_preset *kl_preset_of(int code) {
     return IS_PRESET(code) && place < PAPI_END_idx ? &presets[place] : NULL;
 }
 
-/* The code of a preset by its name, or PAPI_ENOEVNT. After PAPI_ the name is compared without regard to case, as PAPI does. */
+/* The code of a preset by its name, or PAPI_ENOEVNT. After PAPI_ the name is compared without
+ * regard to case, as PAPI does. */
 int kl_preset_named(const char *name, int *code) {
     for (int place = 0; !strncmp(name, "PAPI_", 5) && place < PAPI_END_idx; place++)
         if (!strcasecmp(name, presets[place].name)) {

@@ -25,7 +25,8 @@ atomic_uint kl_generation;
 
 /* Under kl_beginning: the number of the last library, and the process that began it. */
 static struct { unsigned last; pid_t process; } begun;
-/* Under kl_lock: what kistalub_init gave or the library was begun with, and whether it was kistalub_init. */
+/* Under kl_lock: what kistalub_init gave or the library was begun with, and whether it was
+ * kistalub_init. */
 static struct { kl_files *files; int are_given; } named;
 
 void kl_release_files(kl_files *held) {
@@ -35,7 +36,8 @@ void kl_release_files(kl_files *held) {
     if (last) kl_free_files(held);
 }
 
-/* The files that the library was begun with, or NULL. The caller gives them back by kl_release_files. */
+/* The files that the library was begun with, or NULL. The caller gives them back by
+ * kl_release_files. */
 kl_files *kl_hold_files(void) {
     pthread_mutex_lock(&kl_lock);
     kl_files *held = named.files;
@@ -54,7 +56,8 @@ static void take_files(kl_files *made, int are_given) {
     kl_release_files(old);
 }
 
-/* Whether a library is begun that this process has, and not the one that it was forked from. Under kl_beginning. */
+/* Whether a library is begun that this process has, and not the one that it was forked from. Under
+ * kl_beginning. */
 static int is_begun_here(void) { return kl_is_open() && begun.process == getpid(); }
 
 int kistalub_init(const char *unit, const char *presets, const char *cpu, const char *streams) {
@@ -80,7 +83,8 @@ static int files_of_environment(void) {
         fprintf(stderr, "papi: no unit file: KISTALUB_UNIT is not set\n");
         return PAPI_ESYS;
     }
-    int code = kl_read_files(unit, kl_variable("KISTALUB_PRESETS"), kl_variable("KISTALUB_CPU"), kl_variable("KISTALUB_STREAM"), &made);
+    int code = kl_read_files(unit, kl_variable("KISTALUB_PRESETS"), kl_variable("KISTALUB_CPU"),
+                             kl_variable("KISTALUB_STREAM"), &made);
     if (code == PAPI_OK) code = kl_judge_stream(made);
     if (code == PAPI_OK) take_files(made, 0);
     else if (made) kl_free_files(made);
@@ -97,7 +101,8 @@ static int begin_library(void) {
     return code;
 }
 
-/* Files that kistalub_init gave to the process from which this one was forked are this one's too. */
+/* Files that kistalub_init gave to the process from which this one was forked are this one's
+ * too. */
 static void end_library(int keeps_files) {
     kl_leaves();
     kl_forget_threads();
@@ -132,7 +137,8 @@ static int begin(void) {
 int PAPI_library_init(int version) {
     CALL(PAPI_library_init);
     NO_CANCELLATION;
-    if (version < 0 || PAPI_VERSION_MAJOR(version) != PAPI_VERSION_MAJOR(PAPI_VERSION)) RETURN(PAPI_EINVAL);
+    if (version < 0 || PAPI_VERSION_MAJOR(version) != PAPI_VERSION_MAJOR(PAPI_VERSION))
+        RETURN(PAPI_EINVAL);
     pthread_mutex_lock(&kl_beginning);
     int code = begin();
     pthread_mutex_unlock(&kl_beginning);

@@ -15,10 +15,13 @@
 /* The scale that puts each address of a region that begins at 0 into one bucket. */
 #define ONE_BUCKET_SCALE 2
 
-static const int known_flags = PAPI_PROFIL_RANDOM | PAPI_PROFIL_WEIGHTED | PAPI_PROFIL_COMPRESS | PAPI_PROFIL_BUCKETS | PAPI_PROFIL_FORCE_SW |
-                               PAPI_PROFIL_DATA_EAR | PAPI_PROFIL_INST_EAR;
+static const int known_flags = PAPI_PROFIL_RANDOM | PAPI_PROFIL_WEIGHTED | PAPI_PROFIL_COMPRESS |
+                               PAPI_PROFIL_BUCKETS | PAPI_PROFIL_FORCE_SW | PAPI_PROFIL_DATA_EAR |
+                               PAPI_PROFIL_INST_EAR;
 
-static unsigned width_of(int flags) { return flags & PAPI_PROFIL_BUCKET_64 ? 8 : flags & PAPI_PROFIL_BUCKET_32 ? 4 : 2; }
+static unsigned width_of(int flags) {
+    return flags & PAPI_PROFIL_BUCKET_64 ? 8 : flags & PAPI_PROFIL_BUCKET_32 ? 4 : 2;
+}
 
 /* At most one width of buckets is asked for, and nothing that is not known. */
 static int are_flags(int flags) {
@@ -32,9 +35,11 @@ static unsigned draw(thread_state *t) {
     return t->drawn >> 16;
 }
 
-/* Whether a hit on a bucket with this count is dropped: a random one of four, or the more often the more the bucket has. */
+/* Whether a hit on a bucket with this count is dropped: a random one of four, or the more often the
+ * more the bucket has. */
 static int is_dropped(thread_state *t, int flags, uint64_t count) {
-    return (flags & PAPI_PROFIL_RANDOM && draw(t) <= USHRT_MAX / 4) || (flags & PAPI_PROFIL_COMPRESS && draw(t) < count);
+    return (flags & PAPI_PROFIL_RANDOM && draw(t) <= USHRT_MAX / 4) ||
+           (flags & PAPI_PROFIL_COMPRESS && draw(t) < count);
 }
 
 /* Adds 1 to the bucket, which has this width. */
@@ -53,7 +58,11 @@ static void add_one(thread_state *t, unsigned char *at, unsigned width, int flag
     count++;
     count16 = (uint16_t)count;
     count32 = (uint32_t)count;
-    memcpy(at, width == 2 ? (void *)&count16 : width == 4 ? (void *)&count32 : (void *)&count, width);
+    memcpy(at,
+           width == 2   ? (void *)&count16
+           : width == 4 ? (void *)&count32
+                        : (void *)&count,
+           width);
 }
 
 /* The region that begins last before the address, and else the first. */
@@ -76,7 +85,8 @@ void kl_hit(thread_state *t, kl_watch *w, unsigned long long address) {
         place = (address - begin) * region->pr_scale >> 17;
     }
     unsigned width = width_of(w->flags);
-    if (place < region->pr_size / width) add_one(t, (unsigned char *)region->pr_base + place * width, width, w->flags);
+    if (place < region->pr_size / width)
+        add_one(t, (unsigned char *)region->pr_base + place * width, width, w->flags);
 }
 
 static int are_scaled(const PAPI_sprofil_t *regions, int count) {
@@ -87,13 +97,17 @@ static int are_scaled(const PAPI_sprofil_t *regions, int count) {
     return 1;
 }
 
-/* Profiles an event by these regions, or ends its profile. They are the program's, or the watch has one of its own. */
-static int set_profile(thread_state *t, int set, int event, int threshold, int flags, const PAPI_sprofil_t *regions, int count, int is_own) {
+/* Profiles an event by these regions, or ends its profile. They are the program's, or the watch has
+ * one of its own. */
+static int set_profile(thread_state *t, int set, int event, int threshold, int flags,
+                       const PAPI_sprofil_t *regions, int count, int is_own) {
     uint32_t own_code = 0;
     kl_watch *w = NULL;
     int code = kl_find_watch(t, set, event, &own_code, &w);
     if (code != PAPI_OK) return code;
-    if (!are_scaled(regions, count) || threshold < 0 || (threshold == 0 && !w->profiled) || !are_flags(flags)) return PAPI_EINVAL;
+    if (!are_scaled(regions, count) || threshold < 0 || (threshold == 0 && !w->profiled) ||
+        !are_flags(flags))
+        return PAPI_EINVAL;
     code = kl_set_threshold(t, set, own_code, threshold, w);
     if (code != PAPI_OK || threshold == 0) return code;
     w->profiled = 1;
@@ -108,12 +122,16 @@ static int set_profile(thread_state *t, int set, int event, int threshold, int f
 int PAPI_sprofil(PAPI_sprofil_t *prof, int profcnt, int set, int event, int threshold, int flags) {
     CALL(PAPI_sprofil);
     HERE(t);
-    RETURN(set_profile(t, set, event, threshold, flags, prof, prof && profcnt > 0 ? profcnt : 0, 0));
+    RETURN(
+        set_profile(t, set, event, threshold, flags, prof, prof && profcnt > 0 ? profcnt : 0, 0));
 }
 
-int PAPI_profil(void *buf, unsigned bufsiz, vptr_t offset, unsigned scale, int set, int event, int threshold, int flags) {
+int PAPI_profil(void *buf, unsigned bufsiz, vptr_t offset, unsigned scale, int set, int event,
+                int threshold, int flags) {
     CALL(PAPI_profil);
     HERE(t);
-    PAPI_sprofil_t region = { .pr_base = buf, .pr_size = bufsiz, .pr_off = offset, .pr_scale = scale };
+    PAPI_sprofil_t region = {
+        .pr_base = buf, .pr_size = bufsiz, .pr_off = offset, .pr_scale = scale
+    };
     RETURN(set_profile(t, set, event, threshold, flags, &region, threshold > 0, 1));
 }

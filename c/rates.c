@@ -12,18 +12,26 @@
 
 enum { NOTHING, FLIPS, FLOPS, IPC, EPC };
 
-/* What the thread counts: the kind of rate, its event, the times in microseconds at which the set was started, and the library that has the set. */
-static _Thread_local struct { int kind, event, set; long long real, virt; unsigned generation; } rate = { NOTHING, 0, PAPI_NULL, 0, 0, 0 };
+/* What the thread counts: the kind of rate, its event, the times in microseconds at which the set
+ * was started, and the library that has the set. */
+static _Thread_local struct {
+    int kind, event, set;
+    long long real, virt;
+    unsigned generation;
+} rate = { NOTHING, 0, PAPI_NULL, 0, 0, 0 };
 
 /* In a library that began since, the number may be that of another set. */
-static int counted_kind(void) { return rate.generation == atomic_load(&kl_generation) ? rate.kind : NOTHING; }
+static int counted_kind(void) {
+    return rate.generation == atomic_load(&kl_generation) ? rate.kind : NOTHING;
+}
 
 static void note_times(long long real, long long virt) {
     rate.real = real;
     rate.virt = virt;
 }
 
-/* Takes what was counted from the set. A handler of a signal may jump out of this, and out of the others: the next rate begins with what is left of the set. */
+/* Takes what was counted from the set. A handler of a signal may jump out of this, and out of the
+ * others: the next rate begins with what is left of the set. */
 static int stop(long long *values) {
     rate.kind = NOTHING;
     int code = PAPI_stop(rate.set, values);
@@ -71,8 +79,10 @@ static int start(int kind, int *events, int number) {
     return PAPI_OK;
 }
 
-/* The first call of a kind starts, and each later one gives the seconds and the values since the one before. Whether it gives any. */
-static int rated(int kind, int *events, int number, float *rtime, float *ptime, long long *values, int *gives) {
+/* The first call of a kind starts, and each later one gives the seconds and the values since the
+ * one before. Whether it gives any. */
+static int rated(int kind, int *events, int number, float *rtime, float *ptime, long long *values,
+                 int *gives) {
     *gives = 0;
     *rtime = *ptime = 0;
     int code = kl_high_level_runs() ? PAPI_hl_stop() : kl_begin_library();
@@ -98,7 +108,8 @@ static int rated(int kind, int *events, int number, float *rtime, float *ptime, 
 }
 
 /* Millions of the event in a second of the thread's time. */
-static int per_second(int kind, int event, float *rtime, float *ptime, long long *counted, float *rate_of) {
+static int per_second(int kind, int event, float *rtime, float *ptime, long long *counted,
+                      float *rate_of) {
     int events[1] = { event }, gives;
     long long values[1] = { 0 };
     if (!rtime || !ptime || !counted || !rate_of) return PAPI_EINVAL;
@@ -120,7 +131,9 @@ int PAPI_flops_rate(int event, float *rtime, float *ptime, long long *flpops, fl
     RETURN(per_second(FLOPS, event, rtime, ptime, flpops, mflops));
 }
 
-static float ratio(long long events, long long cycles) { return cycles ? (float)((double)events / (double)cycles) : 0; }
+static float ratio(long long events, long long cycles) {
+    return cycles ? (float)((double)events / (double)cycles) : 0;
+}
 
 int PAPI_ipc(float *rtime, float *ptime, long long *ins, float *ipc) {
     CALL(PAPI_ipc);
@@ -133,13 +146,15 @@ int PAPI_ipc(float *rtime, float *ptime, long long *ins, float *ipc) {
     RETURN(code);
 }
 
-int PAPI_epc(int event, float *rtime, float *ptime, long long *ref, long long *core, long long *evt, float *epc) {
+int PAPI_epc(int event, float *rtime, float *ptime, long long *ref, long long *core, long long *evt,
+             float *epc) {
     CALL(PAPI_epc);
     int events[MOST_RATED] = { event ? event : PAPI_TOT_INS, PAPI_TOT_CYC, PAPI_REF_CYC }, gives;
     long long values[MOST_RATED] = { 0, 0, 0 };
     if (!rtime || !ptime || !ref || !core || !evt || !epc) RETURN(PAPI_EINVAL);
     int code = kl_begin_library();
-    int number = code == PAPI_OK && PAPI_query_event(PAPI_REF_CYC) == PAPI_OK ? MOST_RATED : MOST_RATED - 1;
+    int number =
+        code == PAPI_OK && PAPI_query_event(PAPI_REF_CYC) == PAPI_OK ? MOST_RATED : MOST_RATED - 1;
     if (code == PAPI_OK) code = rated(EPC, events, number, rtime, ptime, values, &gives);
     else gives = 0;
     *ref = gives ? values[2] : 0;

@@ -50,10 +50,12 @@ static void insert(counted_events *counted, const region_event *event) {
     counted->groups[event->group].count++;
 }
 
-/* Takes an event where it is available and can be counted with the others of its group. That memory is refused is the only error. */
+/* Takes an event where it is available and can be counted with the others of its group. That memory
+ * is refused is the only error. */
 static int take_event(counted_events *counted, const char *name, int is_instant) {
     region_event event = { .is_instant = is_instant };
-    int fits = strlen(name) < sizeof event.name && counted->event_count < MOST_REGION_EVENTS, number, code = PAPI_EINVAL;
+    int fits = strlen(name) < sizeof event.name && counted->event_count < MOST_REGION_EVENTS,
+        number, code = PAPI_EINVAL;
     if (fits) {
         strcpy(event.name, name);
         code = PAPI_event_name_to_code(name, &number);
@@ -68,7 +70,8 @@ static int take_event(counted_events *counted, const char *name, int is_instant)
     return PAPI_OK;
 }
 
-/* Takes an event of PAPI_EVENTS: a name, which =instant or =delta may follow, with spaces that mean nothing. */
+/* Takes an event of PAPI_EVENTS: a name, which =instant or =delta may follow, with spaces that mean
+ * nothing. */
 static int take_word(counted_events *counted, const char *word, size_t length) {
     char name[2 * PAPI_MAX_STR_LEN];
     size_t n = 0;

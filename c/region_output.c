@@ -118,8 +118,9 @@ static void write_threads(FILE *f, const counted_events *counted, const region_t
 static void write_file(FILE *f, const counted_events *counted, const region_thread *threads) {
     putc('{', f);
     line(f, 1);
-    fprintf(f, "\"papi_version\":\"%d.%d.%d.%d\",", PAPI_VERSION_MAJOR(PAPI_VERSION), PAPI_VERSION_MINOR(PAPI_VERSION),
-            PAPI_VERSION_REVISION(PAPI_VERSION), PAPI_VERSION_INCREMENT(PAPI_VERSION));
+    fprintf(f, "\"papi_version\":\"%d.%d.%d.%d\",", PAPI_VERSION_MAJOR(PAPI_VERSION),
+            PAPI_VERSION_MINOR(PAPI_VERSION), PAPI_VERSION_REVISION(PAPI_VERSION),
+            PAPI_VERSION_INCREMENT(PAPI_VERSION));
     line(f, 1);
     fputs("\"cpu_info\":", f);
     quoted(f, counted->cpu);
@@ -146,13 +147,16 @@ static int make_folders(char *path) {
         }
 }
 
-/* A folder of an earlier process gets the time behind its name. One of this second is that of another process of the same program. */
+/* A folder of an earlier process gets the time behind its name. One of this second is that of
+ * another process of the same program. */
 static void move_earlier(const char *folder) {
     char stamp[32];
     struct stat found;
     time_t now = time(NULL);
     struct tm parts;
-    if (stat(folder, &found) || !S_ISDIR(found.st_mode) || found.st_mtime >= now || !localtime_r(&now, &parts)) return;
+    if (stat(folder, &found) || !S_ISDIR(found.st_mode) || found.st_mtime >= now ||
+        !localtime_r(&now, &parts))
+        return;
     strftime(stamp, sizeof stamp, "%Y%m%d-%H%M%S", &parts);
     size_t room = strlen(folder) + sizeof stamp + 1;
     char *moved = malloc(room);
@@ -169,7 +173,8 @@ int kl_find_region_folder(counted_events *counted) {
     if (!above || !*above) above = ".";
     size_t room = (here ? strlen(here) : 0) + strlen(above) + sizeof "//" OUTPUT;
     counted->folder = malloc(room);
-    if (counted->folder) snprintf(counted->folder, room, "%s%s%s/" OUTPUT, here ? here : "", here ? "/" : "", above);
+    if (counted->folder)
+        snprintf(counted->folder, room, "%s%s%s/" OUTPUT, here ? here : "", here ? "/" : "", above);
     free(here);
     if (!counted->folder) return PAPI_ENOMEM;
     move_earlier(counted->folder);
@@ -178,7 +183,8 @@ int kl_find_region_folder(counted_events *counted) {
 
 /* The number of the process among those of an MPI program, or -1 where it is none. */
 static int rank_of_process(void) {
-    static const char *const names[] = { "OMPI_COMM_WORLD_RANK", "ALPS_APP_PE", "PMI_RANK", "SLURM_PROCID" };
+    static const char *const names[] = { "OMPI_COMM_WORLD_RANK", "ALPS_APP_PE", "PMI_RANK",
+                                         "SLURM_PROCID" };
     for (size_t i = 0; i < sizeof names / sizeof *names; i++) {
         const char *rank = kl_variable(names[i]);
         if (rank) return atoi(rank) < 0 ? 0 : atoi(rank) % RANKS;
@@ -186,13 +192,16 @@ static int rank_of_process(void) {
     return -1;
 }
 
-/* Opens the first file that is not there yet: of a rank its own, which may be the second of its name, and otherwise that of the least number. */
+/* Opens the first file that is not there yet: of a rank its own, which may be the second of its
+ * name, and otherwise that of the least number. */
 static FILE *open_file(char *path, size_t room, const char *folder) {
     const int rank = rank_of_process();
     for (int next = 0; next < RANKS; next++) {
-        if (rank < 0 || next == 0) snprintf(path, room, "%s/rank_%06d.json", folder, rank < 0 ? next : rank);
+        if (rank < 0 || next == 0)
+            snprintf(path, room, "%s/rank_%06d.json", folder, rank < 0 ? next : rank);
         else snprintf(path, room, "%s/rank_%06d-%d.json", folder, rank, next + 1);
-        int file = open(path, O_WRONLY | O_CREAT | O_EXCL | O_CLOEXEC, S_IRUSR | S_IWUSR | S_IRGRP | S_IROTH);
+        int file = open(path, O_WRONLY | O_CREAT | O_EXCL | O_CLOEXEC,
+                        S_IRUSR | S_IWUSR | S_IRGRP | S_IROTH);
         FILE *f = file >= 0 ? fdopen(file, "w") : NULL;
         if (file >= 0 && !f) close(file);
         if (file >= 0) return f;
@@ -221,15 +230,18 @@ static int are_matched(const region_thread *threads) {
     return begun && begun == ended;
 }
 
-static void write_named(const counted_events *counted, const region_thread *threads, char *path, size_t room) {
-    FILE *f = make_folders(counted->folder) == PAPI_OK ? open_file(path, room, counted->folder) : NULL;
+static void write_named(const counted_events *counted, const region_thread *threads, char *path,
+                        size_t room) {
+    FILE *f =
+        make_folders(counted->folder) == PAPI_OK ? open_file(path, room, counted->folder) : NULL;
     if (!f) {
         fprintf(stderr, "kistalub: PAPI_OUTPUT_DIRECTORY: cannot write: %s\n", counted->folder);
         return;
     }
     write_file(f, counted, threads);
     int is_whole = !ferror(f);
-    if (fclose(f) || !is_whole) fprintf(stderr, "kistalub: PAPI_OUTPUT_DIRECTORY: cannot write: %s\n", path);
+    if (fclose(f) || !is_whole)
+        fprintf(stderr, "kistalub: PAPI_OUTPUT_DIRECTORY: cannot write: %s\n", path);
     else if (kl_variable("PAPI_REPORT")) report(path);
 }
 

@@ -1,4 +1,5 @@
-/* The numbers of event sets. One that the program sees is the process's, the least that no set has. The library of each thread numbers by itself. */
+/* The numbers of event sets. One that the program sees is the process's, the least that no set has.
+ * The library of each thread numbers by itself. */
 #include "posix.h"
 #include "calls.h"
 #include "codes.h"
@@ -46,7 +47,8 @@ int kl_number_set(thread_state *t, uint32_t own, int *set) {
     kl_set *s = calloc(1, sizeof *s);
     if (!s) return PAPI_ENOMEM;
     pthread_mutex_lock(&kl_lock);
-    int code = t->generation == atomic_load(&kl_generation) ? take_number(t, &number) : PAPI_ENOINIT;
+    int code =
+        t->generation == atomic_load(&kl_generation) ? take_number(t, &number) : PAPI_ENOINIT;
     pthread_mutex_unlock(&kl_lock);
     if (code == PAPI_OK) {
         code = kl_note(&t->own_sets, &t->own_set_count, number, own);
@@ -102,7 +104,8 @@ static thread_state *ended_owner(int set) {
     return owner;
 }
 
-/* A handler of a signal may have interrupted what holds the lock: it finds the thread's own sets alone. */
+/* A handler of a signal may have interrupted what holds the lock: it finds the thread's own sets
+ * alone. */
 thread_state *kl_owner_of(thread_state *t, int set) {
     static thread_state nobody = { .has_ended = 1 }; /* it has no set */
     if (kl_interrupts()) return t ? t : &nobody;

@@ -81,7 +81,8 @@ int PAPI_cleanup_eventset(int set) {
 
 int kl_events_in(thread_state *t, int set, kl_events *events) {
     events->count = 0;
-    return kistalub_list_events(&t->library, kl_set_number(t, set), events->codes, MOST_EVENTS, &events->count);
+    return kistalub_list_events(&t->library, kl_set_number(t, set), events->codes, MOST_EVENTS,
+                                &events->count);
 }
 
 int kl_index_in(const kl_events *events, uint32_t code) {
@@ -104,7 +105,8 @@ static void close_up(void *array, size_t size, uint64_t place) {
     memset((unsigned char *)array + (MOST_EVENTS - 1) * size, 0, size);
 }
 
-/* One of these events was taken out: what belongs to it goes, and what belongs to those after it follows its events. */
+/* One of these events was taken out: what belongs to it goes, and what belongs to those after it
+ * follows its events. */
 static void follow(thread_state *t, int set, const kl_events *before) {
     kl_events after;
     kl_set *s = kl_set_of(t, set);
@@ -120,7 +122,8 @@ static void follow(thread_state *t, int set, const kl_events *before) {
     kl_note_watches(t, s);
 }
 
-/* The first event binds a set to its component. The set takes the domain of that, unless it has one of its own. */
+/* The first event binds a set to its component. The set takes the domain of that, unless it has one
+ * of its own. */
 static int bind(thread_state *t, int set) {
     kl_events events;
     const kl_set *s = kl_set_of(t, set);
@@ -128,10 +131,12 @@ static int bind(thread_state *t, int set) {
     int code = kl_events_in(t, set, &events);
     if (code != PAPI_OK || events.count != 1 || s->component) return code;
     if (kistalub_component_of(&t->library, events.codes[0], &component) != PAPI_OK) return PAPI_OK;
-    return s->domain == kl_default_domain(0) ? kl_set_domain(t, set, kl_default_domain(component)) : PAPI_OK;
+    return s->domain == kl_default_domain(0) ? kl_set_domain(t, set, kl_default_domain(component))
+                                             : PAPI_OK;
 }
 
-/* The set has one more event, which was added as a preset that the model does not have, or otherwise: 0. */
+/* The set has one more event, which was added as a preset that the model does not have, or
+ * otherwise: 0. */
 static int take_in(thread_state *t, int set, int preset) {
     kl_set *s = kl_set_of(t, set);
     if (s->event_count < MOST_EVENTS) {
@@ -185,7 +190,9 @@ static int add_named(thread_state *t, int set, const char *name) {
     if (kl_preset_named(name, &event) == PAPI_OK && stands_for(event)) return add(t, set, event);
     name = kl_spelled(name);
     code = kl_check_known(t, name);
-    if (code == PAPI_OK) code = kistalub_add_named(&t->library, kl_set_number(t, set), (const unsigned char *)name, kl_name_length(name));
+    if (code == PAPI_OK)
+        code = kistalub_add_named(&t->library, kl_set_number(t, set), (const unsigned char *)name,
+                                  kl_name_length(name));
     return code == PAPI_OK ? take_in(t, set, 0) : code;
 }
 
@@ -198,11 +205,14 @@ int PAPI_add_named_event(int set, const char *name) {
 static int remove_named(thread_state *t, int set, const char *name) {
     kl_events before;
     int event;
-    if (kl_preset_named(name, &event) == PAPI_OK && stands_for(event)) return remove_code(t, set, event);
+    if (kl_preset_named(name, &event) == PAPI_OK && stands_for(event))
+        return remove_code(t, set, event);
     name = kl_spelled(name);
     thread_state *owner = kl_owner_of(t, set);
     int code = kl_events_in(owner, set, &before);
-    if (code == PAPI_OK) code = kistalub_remove_named(&owner->library, kl_set_number(owner, set), (const unsigned char *)name, kl_name_length(name));
+    if (code == PAPI_OK)
+        code = kistalub_remove_named(&owner->library, kl_set_number(owner, set),
+                                     (const unsigned char *)name, kl_name_length(name));
     if (code == PAPI_OK) follow(owner, set, &before);
     kl_let_owner_go(owner);
     return code;
@@ -286,7 +296,8 @@ static int state_of(thread_state *t, int set, int *status) {
     uint32_t bits = 0;
     thread_state *owner = kl_owner_of(t, set);
     int code = kistalub_state(&owner->library, kl_set_number(owner, set), &bits);
-    if (code == PAPI_OK) *status = (int)bits | (kl_has_profile(kl_set_of(owner, set)) ? PAPI_PROFILING : 0);
+    if (code == PAPI_OK)
+        *status = (int)bits | (kl_has_profile(kl_set_of(owner, set)) ? PAPI_PROFILING : 0);
     kl_let_owner_go(owner);
     return code;
 }

@@ -1,7 +1,9 @@
-/* Signals. A handler of the program may count in the midst of another call of the same thread. The proved library makes one call at a time, so while it
- * makes one the thread's signals wait, if the process has a handler for any. It is looked for handlers now and then, since it takes a call of the system for
- * each signal. Where a handler was set since, the call that it interrupted goes on after it: a reading then gives the values that were told last, and what
- * else was asked for is done when that call ends. */
+/* Signals. A handler of the program may count in the midst of another call of the same thread. The
+ * proved library makes one call at a time, so while it makes one the thread's signals wait, if the
+ * process has a handler for any. It is looked for handlers now and then, since it takes a call of
+ * the system for each signal. Where a handler was set since, the call that it interrupted goes on
+ * after it: a reading then gives the values that were told last, and what else was asked for is
+ * done when that call ends. */
 #define _GNU_SOURCE
 #include "calls.h"
 #include "limits.h"
@@ -25,15 +27,22 @@
 static atomic_int is_met, has_handlers;
 static _Thread_local struct { int are_waiting; sigset_t before; } change;
 
-static int are_met(void) { return atomic_load_explicit(&has_handlers, memory_order_relaxed) | atomic_load_explicit(&is_met, memory_order_relaxed); }
+static int are_met(void) {
+    return atomic_load_explicit(&has_handlers, memory_order_relaxed) |
+           atomic_load_explicit(&is_met, memory_order_relaxed);
+}
 
 /* Signals that an instruction of the thread itself raises do not wait. */
-static int is_own(int number) { return number == SIGSEGV || number == SIGBUS || number == SIGFPE || number == SIGILL || number == SIGTRAP; }
+static int is_own(int number) {
+    return number == SIGSEGV || number == SIGBUS || number == SIGFPE || number == SIGILL ||
+           number == SIGTRAP;
+}
 
 static int is_handled(int number) {
     struct sigaction action;
     if (is_own(number) || sigaction(number, NULL, &action)) return 0;
-    return action.sa_flags & SA_SIGINFO || (action.sa_handler != SIG_DFL && action.sa_handler != SIG_IGN);
+    return action.sa_flags & SA_SIGINFO ||
+           (action.sa_handler != SIG_DFL && action.sa_handler != SIG_IGN);
 }
 
 /* All that may wait. */
@@ -43,11 +52,13 @@ static void note_others(sigset_t *others) {
         if (is_own(number)) sigdelset(others, number);
 }
 
-/* The last signal is not looked at: in a program that runs under valgrind it has a handler of valgrind's. */
+/* The last signal is not looked at: in a program that runs under valgrind it has a handler of
+ * valgrind's. */
 void kl_look_for_handlers(void) {
     int found = 0;
     for (int number = 1; number < SIGRTMAX && !found; number++) found = is_handled(number);
-    if (atomic_load_explicit(&has_handlers, memory_order_relaxed) != found) atomic_store_explicit(&has_handlers, found, memory_order_relaxed); /* others look at it */
+    if (atomic_load_explicit(&has_handlers, memory_order_relaxed) != found)
+        atomic_store_explicit(&has_handlers, found, memory_order_relaxed); /* others look at it */
 }
 
 static __attribute__((noinline)) void look(kl_signals *s) {
@@ -57,7 +68,8 @@ static __attribute__((noinline)) void look(kl_signals *s) {
     s->looks++;
 }
 
-/* A tool that puts signals off, such as ThreadSanitizer, may call a handler when they are blocked already: what was blocked before is kept after that. */
+/* A tool that puts signals off, such as ThreadSanitizer, may call a handler when they are blocked
+ * already: what was blocked before is kept after that. */
 static __attribute__((noinline)) void block_signals(kl_signals *s) {
     sigset_t before;
     pthread_sigmask(SIG_SETMASK, &s->others, &before);
@@ -80,7 +92,8 @@ static __attribute__((noinline)) void do_asked(thread_state *t) {
     kl_core_changes(t);
     for (uint32_t set = 0; set < MOST_SETS; set++) {
         if (to_stop >> set & 1) kistalub_stop(&t->library, set, values, MOST_EVENTS, &count);
-        if (to_reset >> set & 1 && kistalub_reset(&t->library, set) == PAPI_OK) memset(t->sets[set]->last, 0, sizeof t->sets[set]->last);
+        if (to_reset >> set & 1 && kistalub_reset(&t->library, set) == PAPI_OK)
+            memset(t->sets[set]->last, 0, sizeof t->sets[set]->last);
     }
     kl_core_rests(t);
 }
@@ -112,7 +125,8 @@ void kl_core_ends(thread_state *t) {
     if (s->to_stop | s->to_reset) do_now(t);
 }
 
-/* What a thread that is cancelled left undone would look like an interrupted function in its destructors, so it is not. */
+/* What a thread that is cancelled left undone would look like an interrupted function in its
+ * destructors, so it is not. */
 void kl_change_begins(void) {
     sigset_t others, before;
     kl_no_cancellation();
@@ -134,7 +148,8 @@ void kl_change_ends(void) {
     pthread_sigmask(SIG_SETMASK, &before, NULL);
 }
 
-/* A library that was being read is as it was. Of one that was being changed nothing is known: it is closed by nobody. From now on all signals wait. */
+/* A library that was being read is as it was. Of one that was being changed nothing is known: it is
+ * closed by nobody. From now on all signals wait. */
 void kl_signals_were_left(thread_state *t) {
     atomic_store_explicit(&is_met, 1, memory_order_relaxed);
     change.are_waiting = 0;

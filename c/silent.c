@@ -1,5 +1,7 @@
-/* Events that count nothing. A native event of a set that is started, for which no line of the thread's stream counts, is told once on standard error. The core is
- * asked: a library of its own counts the event over two lines of each head that the stream has. With KISTALUB_HINTS=0 nothing is told. */
+/* Events that count nothing. A native event of a set that is started, for which no line of the
+ * thread's stream counts, is told once on standard error. The core is asked: a library of its own
+ * counts the event over two lines of each head that the stream has. With KISTALUB_HINTS=0 nothing
+ * is told. */
 #include "posix.h"
 #include "environment.h"
 #include "events.h"
@@ -26,7 +28,8 @@
 #define MOST_HEADS_ASKED 4096 /* of a stream with more nothing is told */
 #define AMOUNT (LARGEST_AMOUNT + 1) /* two lines: one of the most, and one of 1 */
 
-/* What was asked, by the number of the thread whose stream it is: 0 for one that all threads have. */
+/* What was asked, by the number of the thread whose stream it is: 0 for one that all threads
+ * have. */
 struct kl_asked { struct kl_asked *next; uint32_t stream; char name[]; };
 
 int kl_tells_silence(void) {
@@ -51,14 +54,16 @@ static int byte_at(const unsigned char *at) {
 /* The number of the head of a line `COMP SELECT UMASK MODE ..`, or -1 if it has none. */
 static int head_of(const unsigned char *line, const unsigned char *end) {
     int component = 0;
-    while (line < end && *line >= '0' && *line <= '9' && component < COMPONENTS) component = 10 * component + *line++ - '0';
+    while (line < end && *line >= '0' && *line <= '9' && component < COMPONENTS)
+        component = 10 * component + *line++ - '0';
     if (end - line < 9 || *line++ != ' ' || component >= COMPONENTS) return -1;
     int select = byte_at(line), mask = byte_at(line + 3), mode = line[6];
     if (select < 0 || mask < 0 || (mode != 'u' && mode != 'k') || line[7] != ' ') return -1;
     return ((component * PART_VALUES + select) * PART_VALUES + mask) * MODES + (mode == 'k');
 }
 
-/* The heads that a stream has, in their order, and how many; MOST_HEADS_ASKED + 1 if there are more. */
+/* The heads that a stream has, in their order, and how many; MOST_HEADS_ASKED + 1 if there are
+ * more. */
 static unsigned find_heads(const text *stream, unsigned char *seen, int *heads) {
     const unsigned char *at = stream->bytes, *end = stream->bytes + stream->length;
     unsigned count = 0;
@@ -99,13 +104,15 @@ void kl_drop_heads(kl_heads *heads) {
 }
 
 int kl_take_heads(const text *stream, kl_heads *heads) {
-    struct { int heads[MOST_HEADS_ASKED + 1]; unsigned char seen[ALL_HEADS]; } *found; /* not on the stack: a thread may have a small one */
+    /* not on the stack: a thread may have a small one */
+    struct { int heads[MOST_HEADS_ASKED + 1]; unsigned char seen[ALL_HEADS]; } *found;
     kl_drop_heads(heads);
     if (!stream->length) return PAPI_OK;
     found = calloc(1, sizeof *found);
     if (!found) return PAPI_ENOMEM;
     unsigned count = find_heads(stream, found->seen, found->heads);
-    int code = count == 0 || count > MOST_HEADS_ASKED ? PAPI_OK : put_heads(found->heads, count, heads);
+    int code =
+        count == 0 || count > MOST_HEADS_ASKED ? PAPI_OK : put_heads(found->heads, count, heads);
     free(found);
     return code;
 }
@@ -118,16 +125,19 @@ static int all_happen(kistalub *probe, const kl_heads *heads) {
     uint64_t told = 0;
     uint32_t went = 0;
     int code = PAPI_OK;
-    for (size_t i = 0; code == PAPI_OK && i < heads->count; i++) code = kistalub_happen(probe, &heads->of[i], &went, passings, MOST_EVENTS, &told);
+    for (size_t i = 0; code == PAPI_OK && i < heads->count; i++)
+        code = kistalub_happen(probe, &heads->of[i], &went, passings, MOST_EVENTS, &told);
     return code;
 }
 
 /* Lets a set with the event alone count them, in user and kernel mode. */
-static int count_heads(kistalub *probe, uint32_t set, const char *name, const kl_heads *heads, int64_t *value) {
+static int count_heads(kistalub *probe, uint32_t set, const char *name, const kl_heads *heads,
+                       int64_t *value) {
     uint32_t count = 0;
     int64_t values[MOST_EVENTS] = { 1 };
     int code = kistalub_set_domain(probe, set, PAPI_DOM_USER | PAPI_DOM_KERNEL);
-    if (code == PAPI_OK) code = kistalub_add_named(probe, set, (const unsigned char *)name, strlen(name));
+    if (code == PAPI_OK)
+        code = kistalub_add_named(probe, set, (const unsigned char *)name, strlen(name));
     if (code == PAPI_OK) code = kistalub_start(probe, set);
     if (code == PAPI_OK) code = all_happen(probe, heads);
     if (code == PAPI_OK) code = kistalub_stop(probe, set, values, MOST_EVENTS, &count);
@@ -136,7 +146,8 @@ static int count_heads(kistalub *probe, uint32_t set, const char *name, const kl
 }
 
 /* Whether no line counts for the event. What can't be told does. */
-static int ask_core(const kl_files *files, const char *name, const kl_heads *heads, int *is_silent) {
+static int ask_core(const kl_files *files, const char *name, const kl_heads *heads,
+                    int *is_silent) {
     const text nothing = { NULL, 0 };
     kistalub probe = KISTALUB_SHUT;
     uint32_t set = 0;
@@ -169,7 +180,9 @@ static int judge_native(kl_files *files, uint32_t stream, const char *name, cons
     made->stream = stream;
     strcpy(made->name, name);
     files->asked = made;
-    if (is_silent) fprintf(stderr, "papi: stream %u: %s counts 0, since no line counts for it\n", (unsigned)stream, name);
+    if (is_silent)
+        fprintf(stderr, "papi: stream %u: %s counts 0, since no line counts for it\n",
+                (unsigned)stream, name);
     return PAPI_OK;
 }
 
@@ -204,8 +217,10 @@ int kl_judge_events(thread_state *t, uint32_t set) {
     if (!files) return PAPI_OK;
     if (kl_core_begins(t)) {
         kl_core_changes(t);
-        if (kistalub_list_events(&t->library, set, codes, MOST_EVENTS, &count) != PAPI_OK) count = 0;
-        for (uint64_t i = 0; answer == PAPI_OK && i < count && i < MOST_EVENTS; i++) answer = judge_event(t, files, codes[i]);
+        if (kistalub_list_events(&t->library, set, codes, MOST_EVENTS, &count) != PAPI_OK)
+            count = 0;
+        for (uint64_t i = 0; answer == PAPI_OK && i < count && i < MOST_EVENTS; i++)
+            answer = judge_event(t, files, codes[i]);
         kl_core_ends(t);
     }
     kl_release_files(files);
@@ -217,9 +232,11 @@ int kl_judge_events(thread_state *t, uint32_t set) {
 /* Of a native event itself, its own name in place 0. PAPI_ENOEVNT if there is none in the place. */
 int kl_native_name(thread_state *t, uint32_t code, uint32_t place, char name[NAME_ROOM]) {
     uint64_t length = 0;
-    int answer = kistalub_info(&t->library, code, KISTALUB_NATIVE, place, (unsigned char *)name, NAME_ROOM - 1, &length);
+    int answer = kistalub_info(&t->library, code, KISTALUB_NATIVE, place, (unsigned char *)name,
+                               NAME_ROOM - 1, &length);
     if (place == 0 && answer != PAPI_ENOMEM && (answer != PAPI_OK || !length))
-        answer = kistalub_code_to_name(&t->library, code, (unsigned char *)name, NAME_ROOM - 1, &length);
+        answer =
+            kistalub_code_to_name(&t->library, code, (unsigned char *)name, NAME_ROOM - 1, &length);
     if (answer != PAPI_OK) length = 0;
     name[length] = 0;
     return answer == PAPI_OK && !length ? PAPI_ENOEVNT : answer;

@@ -1,5 +1,6 @@
-/* The bytes of streams. One that all threads have lies in memory once: it is mapped, and looked at again only if the file has changed. One of a thread alone
- * is there while its library is opened, which keeps what it needs. */
+/* The bytes of streams. One that all threads have lies in memory once: it is mapped, and looked at
+ * again only if the file has changed. One of a thread alone is there while its library is opened,
+ * which keeps what it needs. */
 #include "posix.h"
 #include "files.h"
 #include "limits.h"
@@ -26,7 +27,8 @@
 #define WORDS_ROOM 64
 
 struct kl_stream {
-    unsigned holders; /* under kl_stream_lock: the files, if it is shared, and each thread that opens over it */
+    /* under kl_stream_lock: the files, if it is shared, and each thread that opens over it */
+    unsigned holders;
     int file;         /* open, if it is mapped, or -1 */
     struct stat seen;
     text bytes;
@@ -52,13 +54,18 @@ void kl_drop_stream(kl_stream *stream) {
 static int is_same(const kl_stream *s) {
     struct stat now;
     if (s->file < 0) return 1;
-    return fstat(s->file, &now) == 0 && now.st_dev == s->seen.st_dev && now.st_ino == s->seen.st_ino && now.st_size == s->seen.st_size &&
-           now.st_mtim.tv_sec == s->seen.st_mtim.tv_sec && now.st_mtim.tv_nsec == s->seen.st_mtim.tv_nsec;
+    return fstat(s->file, &now) == 0 && now.st_dev == s->seen.st_dev &&
+           now.st_ino == s->seen.st_ino && now.st_size == s->seen.st_size &&
+           now.st_mtim.tv_sec == s->seen.st_mtim.tv_sec &&
+           now.st_mtim.tv_nsec == s->seen.st_mtim.tv_nsec;
 }
 
-/* Maps a plain file. What can't be mapped is read, and is not opened before: a pipe has one reader. */
+/* Maps a plain file. What can't be mapped is read, and is not opened before: a pipe has one
+ * reader. */
 static int map(kl_stream *s, const char *path) {
-    int file = stat(path, &s->seen) == 0 && S_ISREG(s->seen.st_mode) ? open(path, O_RDONLY | O_CLOEXEC) : -1;
+    int file = stat(path, &s->seen) == 0 && S_ISREG(s->seen.st_mode)
+                   ? open(path, O_RDONLY | O_CLOEXEC)
+                   : -1;
     if (file < 0) return 0;
     if (fstat(file, &s->seen) == 0 && S_ISREG(s->seen.st_mode) && s->seen.st_size > 0) {
         s->bytes.length = s->seen.st_size > STREAM_ROOM ? STREAM_ROOM + 1 : (size_t)s->seen.st_size;
@@ -144,8 +151,12 @@ void kl_say_fault(uint32_t number, const kistalub_fault *fault) {
     unsigned char words[WORDS_ROOM];
     uint64_t length = 0;
     if (kistalub_cause(fault->cause, words, sizeof words, &length) != PAPI_OK) return;
-    if (fault->line == 0) fprintf(stderr, "papi: stream %u: %.*s\n", (unsigned)number, (int)length, (const char *)words);
-    else fprintf(stderr, "papi: stream %u: line %llu: %.*s\n", (unsigned)number, (unsigned long long)fault->line, (int)length, (const char *)words);
+    if (fault->line == 0)
+        fprintf(stderr, "papi: stream %u: %.*s\n", (unsigned)number, (int)length,
+                (const char *)words);
+    else
+        fprintf(stderr, "papi: stream %u: line %llu: %.*s\n", (unsigned)number,
+                (unsigned long long)fault->line, (int)length, (const char *)words);
 }
 
 /* Lets all of a stream happen to a library that counts nothing. */
@@ -155,19 +166,22 @@ static int run_through(kistalub *library) {
     uint64_t told = 0;
     uint32_t consumed = 1;
     int code = PAPI_OK;
-    while (code == PAPI_OK && consumed) code = kistalub_run(library, UINT32_MAX, &consumed, unused, MOST_EVENTS, &told, &fault);
+    while (code == PAPI_OK && consumed)
+        code = kistalub_run(library, UINT32_MAX, &consumed, unused, MOST_EVENTS, &told, &fault);
     if (code == PAPI_ESYS) kl_say_fault(0, &fault);
     return code;
 }
 
-/* Whether the first thread's stream is there, also if it is named by %t; and whether it can be read twice, which a pipe of a thread alone can't. */
+/* Whether the first thread's stream is there, also if it is named by %t; and whether it can be read
+ * twice, which a pipe of a thread alone can't. */
 static int look_at(const kl_files *files, int *can_be_judged) {
     int is_threads, code = PAPI_OK;
     struct stat seen;
     char *path = kl_stream_path(files->streams, 0, &is_threads);
     if (!path) return PAPI_ENOMEM;
     int is_there = *path && stat(path, &seen) == 0;
-    if (*path && !is_there && (errno == ENOENT || errno == ENOTDIR)) code = kl_read_said(ABSENT, path);
+    if (*path && !is_there && (errno == ENOENT || errno == ENOTDIR))
+        code = kl_read_said(ABSENT, path);
     *can_be_judged = !is_there || !is_threads || S_ISREG(seen.st_mode);
     free(path);
     return code;

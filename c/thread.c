@@ -1,4 +1,5 @@
-/* What one thread has: opened at its first call, closed at its end if it has no set then, or when it finds that the library of its calls has ended. */
+/* What one thread has: opened at its first call, closed at its end if it has no set then, or when
+ * it finds that the library of its calls has ended. */
 #include "posix.h"
 #include "calls.h"
 #include "codes.h"
@@ -25,13 +26,19 @@
 
 thread_state *kl_first;
 
-/* In the round of destructors before the last one: tools that look at each access of memory end what they have of the thread in the last. */
+/* In the round of destructors before the last one: tools that look at each access of memory end
+ * what they have of the thread in the last. */
 #define END_ROUND (PTHREAD_DESTRUCTOR_ITERATIONS - 1)
 
-/* The thread's state, with the generation that it is of: a state that has ended may be closed by another thread when the library ends. Each call looks it up, and
- * calls nothing for that. */
-static _Thread_local struct { thread_state *state; unsigned generation; int is_past; } own __attribute__((tls_model("initial-exec")));
-/* What is left to a thread whose part is closed, while its last destructors run: when that was, and which state it had. Another thread may free that. */
+/* The thread's state, with the generation that it is of: a state that has ended may be closed by
+ * another thread when the library ends. Each call looks it up, and calls nothing for that. */
+static _Thread_local struct {
+    thread_state *state;
+    unsigned generation;
+    int is_past;
+} own __attribute__((tls_model("initial-exec")));
+/* What is left to a thread whose part is closed, while its last destructors run: when that was, and
+ * which state it had. Another thread may free that. */
 static _Thread_local struct { const thread_state *state; uint64_t happened; } past;
 static struct { _Atomic pthread_key_t key; atomic_int is_made; int are_forks_guarded; } at_end;
 static uint32_t next_number; /* under kl_lock */
@@ -59,7 +66,8 @@ static void unlist(const thread_state *t) {
         }
 }
 
-/* The thread has no more to do with a state. A call that goes on after a handler closes it when it ends. */
+/* The thread has no more to do with a state. A call that goes on after a handler closes it when it
+ * ends. */
 static void leave(thread_state *t) {
     pthread_mutex_lock(&kl_lock);
     unlist(t);
@@ -77,7 +85,8 @@ void kl_leaves(void) {
     leave(t);
 }
 
-/* The thread is one of those that have ended. Its sets are known by their numbers until they are destroyed, and it is listed until the library ends. */
+/* The thread is one of those that have ended. Its sets are known by their numbers until they are
+ * destroyed, and it is listed until the library ends. */
 static void keep(thread_state *t) {
     pthread_mutex_lock(&kl_ended_lock);
     pthread_mutex_lock(&kl_lock);
@@ -113,7 +122,8 @@ int kl_was_own(const thread_state *owner) { return kl_is_past() && past.state ==
 
 uint64_t kl_past_time(void) { return kl_is_past() ? past.happened : 0; }
 
-/* A library that begins anew has none of the threads of the one before. Those that live find that out by themselves. */
+/* A library that begins anew has none of the threads of the one before. Those that live find that
+ * out by themselves. */
 void kl_forget_threads(void) {
     thread_state *ended = NULL;
     pthread_mutex_lock(&kl_ended_lock);
@@ -137,7 +147,8 @@ void kl_forget_threads(void) {
     pthread_mutex_unlock(&kl_ended_lock);
 }
 
-/* A forked process has the calling thread, and those that had ended. What other threads had may be in the midst of a call, and stays. */
+/* A forked process has the calling thread, and those that had ended. What other threads had may be
+ * in the midst of a call, and stays. */
 static void child_begins(void) {
     for (thread_state **at = &kl_first; *at;)
         if (*at == own.state || (*at)->has_ended) at = &(*at)->next;
@@ -152,7 +163,8 @@ __attribute__((destructor)) static void unload(void) {
 /* Under kl_beginning. A program that ends may begin the library once more after this. */
 int kl_prepare(void) {
     pthread_key_t key;
-    if (!at_end.are_forks_guarded) at_end.are_forks_guarded = kl_guard_forks(child_begins) == PAPI_OK;
+    if (!at_end.are_forks_guarded)
+        at_end.are_forks_guarded = kl_guard_forks(child_begins) == PAPI_OK;
     if (!at_end.is_made && pthread_key_create(&key, thread_ends) == 0) {
         at_end.key = key;
         at_end.is_made = 1;
@@ -166,7 +178,8 @@ static int is_taken(uint32_t number) {
     return 0;
 }
 
-/* Lists a state under the asked number, or under the next one. PAPI_EINVAL if another thread has the number. */
+/* Lists a state under the asked number, or under the next one. PAPI_EINVAL if another thread has
+ * the number. */
 static int list_under(thread_state *t, const uint32_t *asked) {
     thread_state **end = &kl_first;
     if (asked && is_taken(*asked)) return PAPI_EINVAL;
@@ -215,8 +228,11 @@ thread_state *kl_peek_thread(void) {
 /* Opens a library over the files of the process and the bytes of a stream. */
 int kl_open_over(kistalub *library, const kl_files *files, uint32_t number, const text *stream) {
     static const unsigned char nothing[1];
-    return kistalub_open(library, files->unit.bytes, files->unit.length, files->presets.bytes ? files->presets.bytes : nothing, files->presets.length,
-                         (const unsigned char *)files->cpu, strlen(files->cpu), number, stream->bytes ? stream->bytes : nothing, stream->length);
+    return kistalub_open(library, files->unit.bytes, files->unit.length,
+                         files->presets.bytes ? files->presets.bytes : nothing,
+                         files->presets.length, (const unsigned char *)files->cpu,
+                         strlen(files->cpu), number, stream->bytes ? stream->bytes : nothing,
+                         stream->length);
 }
 
 static int open_library(thread_state *t) {
@@ -252,7 +268,8 @@ static int name_state(thread_state *t) {
     return code == PAPI_OK && t->is_opened ? kistalub_register(&t->library) : code;
 }
 
-/* A thread is listed before its stream is read. The function that gives its id may make calls, which then open the library. */
+/* A thread is listed before its stream is read. The function that gives its id may make calls,
+ * which then open the library. */
 static int enter_and_open(void) {
     int code = kl_peek_thread() ? PAPI_OK : kl_enters(NULL, 0);
     if (code == PAPI_OK && own.state->is_lost) code = PAPI_ECLOST;

@@ -23,7 +23,8 @@ static PAPI_thread_id_t id_here(void) {
     return id;
 }
 
-/* Takes the id of the calling thread, and lists it. PAPI_ENOINIT if the program's function ends the library. */
+/* Takes the id of the calling thread, and lists it. PAPI_ENOINIT if the program's function ends the
+ * library. */
 int kl_name_thread(thread_state *t) {
     const kl_hold hold = KL_HOLD(0);
     t->has_id = 1;
@@ -44,7 +45,8 @@ void kl_forget_ids(void) {
 int PAPI_is_initialized(void) {
     CALL(PAPI_is_initialized);
     if (!atomic_load(&kl_generation)) return PAPI_NOT_INITED;
-    return atomic_load(&ids.are_threads) ? PAPI_LOW_LEVEL_INITED | PAPI_THREAD_LEVEL_INITED : PAPI_LOW_LEVEL_INITED;
+    return atomic_load(&ids.are_threads) ? PAPI_LOW_LEVEL_INITED | PAPI_THREAD_LEVEL_INITED
+                                         : PAPI_LOW_LEVEL_INITED;
 }
 
 /* How many threads there are, and the ids of those that have room. */
@@ -61,7 +63,8 @@ static int list_ids(PAPI_thread_id_t *ids, void **kept, int tag, int room) {
     return count;
 }
 
-/* The function is taken once, while there is one thread. Without one the id is that of the process. */
+/* The function is taken once, while there is one thread. Without one the id is that of the
+ * process. */
 static int support(thread_state *t, unsigned long (*id_fn)(void)) {
     if (atomic_load(&ids.are_threads)) return PAPI_OK;
     if (list_ids(NULL, NULL, 0, 0) > 1) return PAPI_EINVAL;
@@ -78,7 +81,8 @@ int PAPI_thread_init(unsigned long (*id_fn)(void)) {
 
 static unsigned long own_id(void) { return (unsigned long)gettid(); }
 
-/* What rates and regions need: ids are those of the system, as in PAPI. Where there are threads already, their ids stay as they are. */
+/* What rates and regions need: ids are those of the system, as in PAPI. Where there are threads
+ * already, their ids stay as they are. */
 int kl_thread_support(void) {
     int code;
     thread_state *t = kl_current_thread(&code);
@@ -99,7 +103,8 @@ int PAPI_register_thread(void) {
     RETURN(kl_name_thread(t));
 }
 
-/* PAPI_EMISC if the thread is not registered. Its event sets and its stream stay, and its next call registers it again. */
+/* PAPI_EMISC if the thread is not registered. Its event sets and its stream stay, and its next call
+ * registers it again. */
 int PAPI_unregister_thread(void) {
     CALL(PAPI_unregister_thread);
     thread_state *t = kl_peek_thread();

@@ -1,5 +1,6 @@
-/* Time: the model's, in which each occurrence of the thread's stream takes a cycle, so that it repeats; with KISTALUB_CLOCK=real the machine's. Of a program
- * that runs under the tool (live.h) it is that of its own cycles. */
+/* Time: the model's, in which each occurrence of the thread's stream takes a cycle, so that it
+ * repeats; with KISTALUB_CLOCK=real the machine's. Of a program that runs under the tool (live.h)
+ * it is that of its own cycles. */
 #include "posix.h"
 #include "calls.h"
 #include "clock.h"
@@ -25,7 +26,8 @@ static struct { atomic_uint mhz; atomic_int is_real; } watch = { USUAL_MHZ, 0 };
 
 uint32_t kl_mhz(void) { return atomic_load(&watch.mhz); }
 
-/* Takes KISTALUB_MHZ and KISTALUB_CLOCK: PAPI_ESYS, and a line on standard error, if they are neither a rate nor a clock. */
+/* Takes KISTALUB_MHZ and KISTALUB_CLOCK: PAPI_ESYS, and a line on standard error, if they are
+ * neither a rate nor a clock. */
 int kl_time_begins(void) {
     const char *clock = kl_variable("KISTALUB_CLOCK");
     uint32_t rate = USUAL_MHZ;
@@ -48,7 +50,8 @@ static bool is_real(void) {
     return clock && !strcmp(clock, "real");
 }
 
-/* Cycles in nanoseconds, at the rate of the clock: whole seconds first, so that nothing overflows. */
+/* Cycles in nanoseconds, at the rate of the clock: whole seconds first, so that nothing
+ * overflows. */
 static long long nanoseconds_of(uint64_t cycles) {
     uint64_t mhz = kl_mhz(), second = mhz * 1000000;
     return (long long)(cycles / second * 1000000000 + cycles % second * 1000 / mhz);
@@ -66,7 +69,8 @@ static struct timespec machine_time(clockid_t clock) {
     return now;
 }
 
-/* The model's time: how many occurrences of the calling thread's stream have happened, or the cycles of the program that runs under the tool. */
+/* The model's time: how many occurrences of the calling thread's stream have happened, or the
+ * cycles of the program that runs under the tool. */
 static uint64_t model_time(clockid_t clock) {
     int code;
     if (kl_is_live()) return kl_live_cycles(clock == CLOCK_MONOTONIC);

@@ -1,5 +1,6 @@
-/* What a program that was compiled by the headers of a later version than PAPI 7.0 finds where these have it. 7.1 has what 7.0 has (Debian's libpapi-dev 7.1.0-5);
- * 7.2 has numbers and members in between (7.2.0-2). The version is that of PAPI_library_init. */
+/* What a program that was compiled by the headers of a later version than PAPI 7.0 finds where
+ * these have it. 7.1 has what 7.0 has (Debian's libpapi-dev 7.1.0-5); 7.2 has numbers and members
+ * in between (7.2.0-2). The version is that of PAPI_library_init. */
 #include "posix.h"
 #include "limits.h"
 #include "papi.h"
@@ -11,13 +12,15 @@
 
 #define MORE_NUMBERS PAPI_VERSION_NUMBER(7, 2, 0, 0)
 
-/* The numbers of 7.2 for an enumeration: one is put in behind PAPI_ENUM_FIRST, and two before PAPI_NTV_ENUM_UMASKS. */
+/* The numbers of 7.2 for an enumeration: one is put in behind PAPI_ENUM_FIRST, and two before
+ * PAPI_NTV_ENUM_UMASKS. */
 enum { FIRST_OF_COMPONENTS = 2, ALL_OF_CPU = 16, AVAILABLE_OF_CPU = 17 };
 
 /* PAPI_component_info_t of 7.2. */
 typedef struct {
     char name[PAPI_MAX_STR_LEN], short_name[PAPI_MIN_STR_LEN], description[PAPI_MAX_STR_LEN];
-    char version[PAPI_MIN_STR_LEN], support_version[PAPI_MIN_STR_LEN], kernel_version[PAPI_MIN_STR_LEN];
+    char version[PAPI_MIN_STR_LEN], support_version[PAPI_MIN_STR_LEN],
+        kernel_version[PAPI_MIN_STR_LEN];
     char disabled_reason[PAPI_HUGE_STR_LEN];
     int disabled;
     char partially_disabled_reason[PAPI_HUGE_STR_LEN];

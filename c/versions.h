@@ -1,4 +1,5 @@
-/* versions.c: what the header of a later version, which a program was compiled by, has elsewhere. */
+/* versions.c: what the header of a later version, which a program was compiled by, has
+ * elsewhere. */
 #ifndef KL_VERSIONS_H
 #define KL_VERSIONS_H
 

@@ -15,7 +15,8 @@ void kl_drop_text(text *t) {
     t->length = 0;
 }
 
-/* Room for more bytes: twice as much, and a byte past the limit at most, which shows that a file passes it. */
+/* Room for more bytes: twice as much, and a byte past the limit at most, which shows that a file
+ * passes it. */
 static int grow(text *t, size_t *room, size_t limit) {
     size_t more = *room ? 2 * *room : FIRST_ROOM;
     if (more > limit) more = limit + 1;
@@ -40,7 +41,10 @@ static kl_ending read_open(FILE *f, size_t limit, text *into) {
 /* Reads a file of at most `limit` bytes. */
 kl_ending kl_read_file(const char *path, size_t limit, text *into) {
     FILE *f = fopen(path, "rbe");
-    if (!f) return errno == ENOENT || errno == ENOTDIR ? ABSENT : errno == ENOMEM ? NO_MEMORY : UNREADABLE;
+    if (!f)
+        return errno == ENOENT || errno == ENOTDIR ? ABSENT
+               : errno == ENOMEM                   ? NO_MEMORY
+                                                   : UNREADABLE;
     kl_ending end = read_open(f, limit, into);
     fclose(f);
     if (end != READ && end != LARGE) kl_drop_text(into);

@@ -191,8 +191,8 @@ SHELL = [
 ]
 CODE = [
     (r"(?<![<>=!-])<(?![<=])(?= )", lambda found: "<=", "bound"), (r"<=(?= )", lambda found: "<", "bound"), (r"(?<![<>=!-])>(?![>=])(?= )", lambda found: ">=", "bound"),
-    (r">=(?= )", lambda found: ">", "bound"), (r" == ", lambda found: " != ", "condition"), (r" != ", lambda found: " == ", "condition"), (r" && ", lambda found: " || ", "condition"),
-    (r" \|\| ", lambda found: " && ", "condition"), (r"(?<=[(=+\- ])[0-9]+\b(?![.x])", lambda found: str(int(found[0]) + 1), "constant"), (r"\bPAPI_E[A-Z]+\b(?!_)", lambda found: "PAPI_OK", "status"),
+    (r">=(?= )", lambda found: ">", "bound"), (r" == ", lambda found: " != ", "condition"), (r" != ", lambda found: " == ", "condition"), (r" &&(?= |$)", lambda found: " ||", "condition"),
+    (r" \|\|(?= |$)", lambda found: " &&", "condition"), (r"(?<=[(=+\- ])[0-9]+\b(?![.x])", lambda found: str(int(found[0]) + 1), "constant"), (r"\bPAPI_E[A-Z]+\b(?!_)", lambda found: "PAPI_OK", "status"),
     (r"^\s*(?:pthread_mutex_(?:un)?lock|free|kl_\w+)\(.*\);$", lambda found: ";", "dropped call"), (r"(?<=[(&| ])!(?=\w)", lambda found: "", "condition"), (r" \+ 1\b", lambda found: "", "bound"),
     (r" - 1\b", lambda found: "", "bound"),
 ]
