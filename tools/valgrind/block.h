@@ -1,18 +1,23 @@
-/* What is known of a translated block of the program, and what its code passes on to the tool. It is kept as long as the translation. */
+/* What is known of a translated block of the program, and what its code passes on to the tool. It
+ * is kept as long as the translation. */
 #ifndef BLOCK_H
 #define BLOCK_H
 #include "core.h"
 
-typedef struct { Addr pc; UShort size, segment; } instruction; /* segment: the exits of the block before it */
+/* segment: the exits of the block before it */
+typedef struct { Addr pc; UShort size, segment; } instruction;
 
-/* Occurrences of a segment, by each of its instructions. They are added to the counts when the segment is left. */
+/* Occurrences of a segment, by each of its instructions. They are added to the counts when the
+ * segment is left. */
 typedef struct { UShort instruction, segment, kind; Short amount; } share;
 
 struct block {
     Addr pc;
     UInt count, shares_count; /* count: of its instructions */
     Bool begins_repeated;     /* the first instruction repeats itself */
-    Bool is_close;            /* its code looks at thresholds behind each instruction. It stands beside the code that runs as a whole */
+    /* Its code looks at thresholds behind each instruction. It stands beside the code that runs as
+     * a whole. */
+    Bool is_close;
     instruction *instructions;
     share *shares;
     struct chunk *chunks;
@@ -21,7 +26,8 @@ struct block {
     block *next;
 };
 
-/* Makes what is known of the block that begins at `pc`, in place of what was known. One of close code is kept until there is another one: Valgrind does not tell when that code is gone. */
+/* Makes what is known of the block that begins at `pc`, in place of what was known. One of close
+ * code is kept until there is another one: Valgrind does not tell when that code is gone. */
 block *new_block(Addr pc, Bool is_close);
 void block_forget(Addr pc);
 void blocks_each(void (*f)(block *b));

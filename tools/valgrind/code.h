@@ -11,15 +11,18 @@ typedef struct {
     block *of;
     IRExpr *base, *rooms;     /* the core, once the block counts, and its rooms */
     Int pending[ALL_KINDS];   /* occurrences that are not added to the counts yet */
-    UInt number, line, segment; /* this instruction; the first of its straight line; the exits so far */
-    Addr first, pc, before;   /* the block's first instruction, this one, and the one before it in this block */
+    /* This instruction; the first of its straight line; the exits so far. */
+    UInt number, line, segment;
+    /* The block's first instruction, this one, and the one before it in this block. */
+    Addr first, pc, before;
     UInt size;
     UChar class;
     UInt loads;               /* of an instruction that repeats itself, so far */
     Bool is_counted, is_branch_seen, is_locked;
     Addr fetched_page, fetched_line; /* of the last fetch in this block */
     Bool is_redirected;       /* Valgrind runs this code in place of the program's */
-    Bool asks_machine;        /* since the block could be left; only if the machine can pass a threshold */
+    /* Since the block could be left; only if the machine can pass a threshold. */
+    Bool asks_machine;
     ULong most[KL_KINDS];     /* occurrences in the block beside those that the machine makes */
     Int beginning;            /* the number of statements before which it can be left, or 0 */
     UInt shares_count, shares_room;
@@ -53,7 +56,8 @@ void code_notes(code *c, UInt kind, Addr pc, UInt amount, UInt phase, IRExpr *gu
 void code_ends_line(code *c);
 void code_leaves_line_open(code *c, IRExpr *guard, Bool is_turn);
 
-/* Takes occurrences from rooms of the tape without a call. The answer is not 0 if there was no room, and then something has to call. */
+/* Takes occurrences from rooms of the tape without a call. The answer is not 0 if there was no
+ * room, and then something has to call. */
 item code_item(const code *c, UInt kind, Addr pc, UInt amount, UInt phase);
 IRExpr *code_takes(code *c, const item *i, IRExpr *amount);
 IRExpr *code_takes_line(code *c, item *line);
@@ -66,11 +70,13 @@ void code_flushes(code *c);
 /* The block begins to count. */
 void code_begins(code *c);
 
-/* Leaves the block before the instruction at `next` if one before it passed a threshold; in code that is not close, if the machine did, or brought one near. */
+/* Leaves the block before the instruction at `next` if one before it passed a threshold; in code
+ * that is not close, if the machine did, or brought one near. */
 void code_checks_behind(code *c, Addr next);
 /* The machine may have been asked. */
 void code_asks_machine(code *c);
-/* All that the block has is known. It is left at its beginning if a threshold is near there, or was passed. */
+/* All that the block has is known. It is left at its beginning if a threshold is near there, or was
+ * passed. */
 void code_checks_beginning(code *c);
 
 /* The machine is asked. */
@@ -87,7 +93,8 @@ void code_branches(code *c, IRExpr *taken); /* a conditional branch, behind its 
 /* This counts them too: nothing looks at each branch when it happens. */
 Bool code_counts_outcomes(void);
 
-IRSB *instrument(VgCallbackClosure *closure, IRSB *in, const VexGuestLayout *guest_layout, const VexGuestExtents *extents, const VexArchInfo *host, IRType guest_word,
+IRSB *instrument(VgCallbackClosure *closure, IRSB *in, const VexGuestLayout *guest_layout,
+                 const VexGuestExtents *extents, const VexArchInfo *host, IRType guest_word,
                  IRType host_word);
 
 /* Where the library's code is, which is not counted; and where counting begins. */

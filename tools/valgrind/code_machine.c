@@ -1,5 +1,6 @@
-/* The code that asks the modelled machine. Where the line and the page of an access are those that their sets used last, nothing changes and nothing is called. What
- * is on the tape beside it shares that call. */
+/* The code that asks the modelled machine. Where the line and the page of an access are those that
+ * their sets used last, nothing changes and nothing is called. What is on the tape beside it shares
+ * that call. */
 #include "code.h"
 
 #include "pub_tool_libcbase.h"
@@ -83,7 +84,9 @@ static IRExpr *access_differs(code *c, const cache *part, UInt tags, IRExpr *add
 }
 
 /* Loads that find their line are on the tape, if its lines have a code for them. */
-static Bool notes_hits(const access *a) { return a->loads && words.has_tape && words.codes[LOAD_HITS].count; }
+static Bool notes_hits(const access *a) {
+    return a->loads && words.has_tape && words.codes[LOAD_HITS].count;
+}
 
 /* Not 0 if the machine has to be asked; NULL if it always has. */
 static IRExpr *machine_differs(code *c, const access *a) {
@@ -97,10 +100,12 @@ static IRExpr *machine_differs(code *c, const access *a) {
 /* An access of which a mask chooses the elements. */
 static void asks_masked(code *c, const access *a) {
     const access each = {.size = a->width, .loads = a->loads, .stores = a->stores};
-    if (!words.has_model || (!current->l1d.tags && !current->dtlb.tags && !notes_hits(&each))) return;
+    if (!words.has_model || (!current->l1d.tags && !current->dtlb.tags && !notes_hits(&each)))
+        return;
     site *s = new_site(c, a->width, a->loads ? BY_LOAD : BY_STORE);
     s->notes_hits = notes_hits(&each);
-    code_call(c, NULL, "model_sees_masked", model_sees_masked, mkIRExprVec_4(code_word((Addr)s), a->address, a->mask, code_word(a->width)));
+    code_call(c, NULL, "model_sees_masked", model_sees_masked,
+              mkIRExprVec_4(code_word((Addr)s), a->address, a->mask, code_word(a->width)));
     code_asks_machine(c);
 }
 
@@ -128,25 +133,32 @@ void code_accesses(code *c, const access *a) {
     }
     if (!is_asked && !full) return;
     IRExpr *differs = is_asked ? machine_differs(c, a) : NULL;
-    if (!guard && (differs || !is_asked)) guard = code_is(c, Iop_CmpNE64, code_or(c, differs, full), code_word(0));
-    code_call(c, guard, "model_sees_access", model_sees_access, mkIRExprVec_2(code_word((Addr)s), a->address));
+    if (!guard && (differs || !is_asked))
+        guard = code_is(c, Iop_CmpNE64, code_or(c, differs, full), code_word(0));
+    code_call(c, guard, "model_sees_access", model_sees_access,
+              mkIRExprVec_2(code_word((Addr)s), a->address));
     code_asks_machine(c);
 }
 
 static IRExpr *load_byte(code *c, IRExpr *address) {
-    return code_make(c, Ity_I64, IRExpr_Unop(Iop_8Uto64, code_make(c, Ity_I8, IRExpr_Load(Iend_LE, Ity_I8, address))));
+    return code_make(
+        c, Ity_I64,
+        IRExpr_Unop(Iop_8Uto64, code_make(c, Ity_I8, IRExpr_Load(Iend_LE, Ity_I8, address))));
 }
 
 /* The predictor learns what a branch did. Not 0 if it was wrong. */
 static IRExpr *predict(code *c, IRExpr *taken) {
-    ULong last = current->branches.last, at_history = OFFSET(branches) + __builtin_offsetof(predictor, history);
+    ULong last = current->branches.last,
+          at_history = OFFSET(branches) + __builtin_offsetof(predictor, history);
     IRExpr *history = code_load_at(c, at_history);
     IRExpr *index = code_two(c, Iop_Xor64, history, code_word(c->pc & last));
-    IRExpr *counter = code_two(c, Iop_Add64, code_two(c, Iop_Add64, c->base, index), code_word(layout.counters));
+    IRExpr *counter =
+        code_two(c, Iop_Add64, code_two(c, Iop_Add64, c->base, index), code_word(layout.counters));
     IRExpr *before = load_byte(c, counter);
     IRExpr *key = code_two(c, Iop_Or64, code_shifted(c, Iop_Shl64, taken, 2), before);
     IRExpr *now = code_two(c, Iop_Add64, key, code_word((Addr)next_state));
-    addStmtToIRSB(c->out, IRStmt_Store(Iend_LE, counter, code_make(c, Ity_I8, IRExpr_Load(Iend_LE, Ity_I8, now))));
+    addStmtToIRSB(c->out, IRStmt_Store(Iend_LE, counter,
+                                       code_make(c, Ity_I8, IRExpr_Load(Iend_LE, Ity_I8, now))));
     IRExpr *longer = code_two(c, Iop_Or64, code_shifted(c, Iop_Shl64, history, 1), taken);
     code_store_at(c, at_history, code_two(c, Iop_And64, longer, code_word(last)));
     return code_two(c, Iop_Xor64, code_shifted(c, Iop_Shr64, before, 1), taken);
@@ -179,6 +191,7 @@ void code_branches(code *c, IRExpr *taken) {
     if (has_predictor()) errs = predict(c, was_taken);
     IRExpr *differs = code_or(c, full, has_predictor() ? errs : NULL);
     IRExpr *calls = code_is(c, Iop_CmpNE64, differs, code_word(0));
-    code_call(c, calls, "model_sees_branch", model_sees_branch, mkIRExprVec_3(code_word((Addr)s), was_taken, errs));
+    code_call(c, calls, "model_sees_branch", model_sees_branch,
+              mkIRExprVec_3(code_word((Addr)s), was_taken, errs));
     code_asks_machine(c);
 }

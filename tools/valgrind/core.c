@@ -26,7 +26,8 @@ static ULong ended[ALL_KINDS]; /* the counts of threads that are no more */
 static SizeT core_size(void) {
     SizeT size = ROUNDED(sizeof(core)) + (1UL << words.predictor_bits);
     const shape *const shapes[] = {&words.l1d, &words.l1i, &words.l2, &words.dtlb, &words.itlb};
-    for (UInt i = 0; i < sizeof shapes / sizeof *shapes; i++) size += ROUNDED(cache_room(shapes[i]));
+    for (UInt i = 0; i < sizeof shapes / sizeof *shapes; i++)
+        size += ROUNDED(cache_room(shapes[i]));
     return size;
 }
 

@@ -1,4 +1,5 @@
-/* The core on which a thread runs: its counts, and its own parts of the modelled machine. Generated code reads and writes them through `current`. */
+/* The core on which a thread runs: its counts, and its own parts of the modelled machine. Generated
+ * code reads and writes them through `current`. */
 #ifndef CORE_H
 #define CORE_H
 #include "pub_tool_basics.h"
@@ -17,22 +18,30 @@ typedef struct frames frames;
 typedef struct {
     ULong counts[ALL_KINDS];
     Long left[KL_KINDS]; /* occurrences until an armed threshold is passed */
-    Long check_at;       /* the number of instructions at which a block begins by a call of tape_sees_block */
-    Long turn_at;        /* the number of instructions at which the thread goes to the stub in place of the next block */
+    /* The number of instructions at which a block begins by a call of tape_sees_block. */
+    Long check_at;
+    /* The number of instructions at which the thread goes to the stub in place of the next
+     * block. */
+    Long turn_at;
     Int *rooms;          /* the occurrences for which the tape's lines have room, by their slots */
     const block *at;     /* the block that runs */
     Addr last;           /* the last instruction of the block before, if something is armed */
-    Long leaves;         /* below 0: a threshold was passed, or the machine brought one near. The block is left behind the instruction that runs */
+    /* Below 0: a threshold was passed, or the machine brought one near. The block is left behind
+     * the instruction that runs. */
+    Long leaves;
     Bool is_uncounted;     /* what runs here is not counted */
     cache l1d, l1i, l2, dtlb, itlb;
     predictor branches;
-    Addr repeated[2];    /* the lines, from 1 on, at which the two operands of an instruction that repeats itself are; 0 for none */
+    /* The lines, from 1 on, at which the two operands of an instruction that repeats itself are; 0
+     * for none. */
+    Addr repeated[2];
 
     UInt number; /* the first thread is 0, and each gets the next number when it begins */
     Bool is_used, is_in_library, is_stopped;
     Long period[KL_KINDS];
     kl_passed passed;
-    ULong at_stop[ALL_KINDS], dropped[ALL_KINDS]; /* the counts when the thread stopped, and what happened while it was */
+    /* The counts when the thread stopped, and what happened while it was. */
+    ULong at_stop[ALL_KINDS], dropped[ALL_KINDS];
     Long left_at_stop[KL_KINDS];
     tape *tape;
     ULong profiled; /* 1 if what happens now belongs to the profile, else 0 */
@@ -75,7 +84,8 @@ void core_takes(core *c, UInt kind, Long amount);
 void core_starts(core *c);
 void core_stops(core *c);
 
-/* The counts of a core without what is derived from others, and all counts while the thread was not stopped. */
+/* The counts of a core without what is derived from others, and all counts while the thread was not
+ * stopped. */
 void core_counts(const core *c, ULong counts[ALL_KINDS]);
 
 /* All counts of a core so far, with those that are sums of others, whether it was stopped or not;

@@ -1,6 +1,7 @@
 #include "decode.h"
 
-/* What stands before the opcode. `form` is that of vectors: packed singles, packed doubles, a single, a double. */
+/* What stands before the opcode. `form` is that of vectors: packed singles, packed doubles, a
+ * single, a double. */
 typedef struct {
     bool has_lock, repeats, is_vex, is_wide, is_double; /* is_wide: of 256 bits; is_double: VEX.W */
     bool is_short;                                      /* an address of 32 bits */
@@ -24,20 +25,27 @@ static unsigned char by_form(const prefixes *p) {
 /* Opcodes after 0F. */
 static unsigned char class_of_0f(const prefixes *p, unsigned char opcode) {
     switch (opcode) {
-    case 0x51: case 0x58: case 0x59: case 0x5C: case 0x5D: case 0x5E: case 0x5F: return by_form(p); /* sqrt, add, mul, sub, min, div, max */
-    case 0x52: case 0x53: return p->form == PACKED_SINGLES || p->form == ONE_SINGLE ? by_form(p) : PLAIN; /* rsqrt, rcp */
+    /* sqrt, add, mul, sub, min, div, max */
+    case 0x51: case 0x58: case 0x59: case 0x5C: case 0x5D: case 0x5E: case 0x5F: return by_form(p);
+    case 0x52: case 0x53:
+        return p->form == PACKED_SINGLES || p->form == ONE_SINGLE ? by_form(p)
+                                                                  : PLAIN; /* rsqrt, rcp */
     case 0x7C: case 0x7D: case 0xD0: /* hadd, hsub, addsub */
-        return p->form == PACKED_DOUBLES ? packed(p, true) : p->form == ONE_DOUBLE ? packed(p, false) : PLAIN;
+        return p->form == PACKED_DOUBLES ? packed(p, true)
+               : p->form == ONE_DOUBLE   ? packed(p, false)
+                                         : PLAIN;
     default: return PLAIN;
     }
 }
 
-/* Opcodes after 0F 38: the fused ones, which are 96 to 9F, A6 to AF and B6 to BF. The odd ones from 9 on are scalar. */
+/* Opcodes after 0F 38: the fused ones, which are 96 to 9F, A6 to AF and B6 to BF. The odd ones from
+ * 9 on are scalar. */
 static unsigned char class_of_0f38(const prefixes *p, unsigned char opcode) {
     unsigned low = opcode & 15, high = opcode >> 4;
     if (!p->is_vex || p->form != PACKED_DOUBLES || high < 9 || high > 0xB || low < 6) return PLAIN;
     bool is_scalar = low >= 9 && low & 1;
-    unsigned char class = is_scalar ? p->is_double ? SCALAR_DOUBLE : SCALAR_SINGLE : packed(p, p->is_double);
+    unsigned char class =
+        is_scalar ? p->is_double ? SCALAR_DOUBLE : SCALAR_SINGLE : packed(p, p->is_double);
     return class | TWICE;
 }
 
@@ -55,7 +63,8 @@ static unsigned char class_of_x87(unsigned char opcode, unsigned char modrm) {
     case 0xDA: return !is_register && computes ? X87 : PLAIN;
     case 0xD9:
         switch (modrm) {
-        case 0xF0: case 0xF1: case 0xF2: case 0xF3: case 0xF5: case 0xF8: case 0xF9: case 0xFA: case 0xFB: case 0xFE: case 0xFF: return X87;
+        case 0xF0: case 0xF1: case 0xF2: case 0xF3: case 0xF5: case 0xF8: case 0xF9: case 0xFA:
+        case 0xFB: case 0xFE: case 0xFF: return X87;
         default: return PLAIN;
         }
     default: return PLAIN;
@@ -63,7 +72,8 @@ static unsigned char class_of_x87(unsigned char opcode, unsigned char modrm) {
 }
 
 static bool is_on_strings(unsigned char opcode) {
-    return (opcode >= 0xA4 && opcode <= 0xA7) || (opcode >= 0xAA && opcode <= 0xAF) || (opcode >= 0x6C && opcode <= 0x6F);
+    return (opcode >= 0xA4 && opcode <= 0xA7) || (opcode >= 0xAA && opcode <= 0xAF) ||
+           (opcode >= 0x6C && opcode <= 0x6F);
 }
 
 static unsigned char class_of_group(unsigned char modrm) {
@@ -73,7 +83,8 @@ static unsigned char class_of_group(unsigned char modrm) {
 
 /* Opcodes of one byte, with the byte behind. */
 static unsigned char class_of_one(const prefixes *p, unsigned char opcode, unsigned char modrm) {
-    if ((opcode >= 0x70 && opcode <= 0x7F) || (opcode >= 0xE0 && opcode <= 0xE3)) return CONDITIONAL;
+    if ((opcode >= 0x70 && opcode <= 0x7F) || (opcode >= 0xE0 && opcode <= 0xE3))
+        return CONDITIONAL;
     if (opcode >= 0xD8 && opcode <= 0xDF) return class_of_x87(opcode, modrm);
     if (p->repeats && is_on_strings(opcode)) return REPEATS;
     switch (opcode) {
@@ -81,7 +92,8 @@ static unsigned char class_of_one(const prefixes *p, unsigned char opcode, unsig
     case 0xE9: case 0xEB: return JUMP;
     case 0xC2: case 0xC3: case 0xCA: case 0xCB: case 0xCF: return RETURN;
     case 0xFF: return class_of_group(modrm);
-    case 0x86: case 0x87: return modrm < 0xC0 ? LOCKS : PLAIN; /* xchg with memory locks by itself */
+    /* xchg with memory locks by itself */
+    case 0x86: case 0x87: return modrm < 0xC0 ? LOCKS : PLAIN;
     default: return PLAIN;
     }
 }
@@ -91,7 +103,10 @@ static unsigned char class_of_vex(const unsigned char *at, const unsigned char *
     if (at + (is_short ? 2 : 3) >= end) return PLAIN;
     unsigned char last = is_short ? at[1] : at[2], opcode = is_short ? at[2] : at[3];
     static const unsigned char forms[4] = {PACKED_SINGLES, PACKED_DOUBLES, ONE_SINGLE, ONE_DOUBLE};
-    const prefixes p = {.is_vex = true, .is_wide = last >> 2 & 1, .is_double = !is_short && last >> 7, .form = forms[last & 3]};
+    const prefixes p = {.is_vex = true,
+                        .is_wide = last >> 2 & 1,
+                        .is_double = !is_short && last >> 7,
+                        .form = forms[last & 3]};
     switch (is_short ? 1 : at[1] & 31) {
     case 1: return class_of_0f(&p, opcode);
     case 2: return class_of_0f38(&p, opcode);
@@ -100,7 +115,8 @@ static unsigned char class_of_vex(const unsigned char *at, const unsigned char *
     }
 }
 
-static const unsigned char *read_prefixes(prefixes *p, const unsigned char *at, const unsigned char *end) {
+static const unsigned char *read_prefixes(prefixes *p, const unsigned char *at,
+                                          const unsigned char *end) {
     bool has_66 = false, has_f2 = false, has_f3 = false;
     for (; at < end; at++) {
         switch (*at) {
@@ -133,13 +149,15 @@ unsigned char class_of_bytes(const unsigned char *bytes, unsigned length) {
     if (behind >= 0x80 && behind <= 0x8F) return CONDITIONAL;
     if (behind == 0x38) return PLAIN;
     if (behind == 0x3A) return at + 2 < end ? class_of_0f3a(&p, at[2]) : PLAIN;
-    bool compares = behind == 0xB0 || behind == 0xB1 || behind == 0xC7; /* cmpxchg needs no trying again */
+    /* cmpxchg needs no trying again */
+    bool compares = behind == 0xB0 || behind == 0xB1 || behind == 0xC7;
     return class_of_0f(&p, behind) | (p.has_lock && !compares ? LOCKS : 0);
 }
 
 static operation operation_of_0f(unsigned char opcode) {
     switch (opcode) {
-    case 0x58: case 0x5C: case 0x7C: case 0x7D: case 0xD0: return ADDS; /* add, sub, hadd, hsub, addsub */
+    /* add, sub, hadd, hsub, addsub */
+    case 0x58: case 0x5C: case 0x7C: case 0x7D: case 0xD0: return ADDS;
     case 0x59: return MULTIPLIES;
     case 0x51: case 0x5E: return DIVIDES; /* sqrt, div */
     default: return DOES_OTHER;
@@ -172,7 +190,8 @@ static operands operands_of_vex(const unsigned char *at, const unsigned char *en
     unsigned char map = is_short ? 1 : at[1] & 31, opcode = is_short ? at[2] : at[3];
     if (map == 1) return opcode == 0xF7 ? OPERANDS_STORED : OPERANDS_WHOLE; /* maskmovdqu */
     if (map != 2) return OPERANDS_WHOLE;
-    if ((opcode >= 0x2C && opcode <= 0x2F) || opcode == 0x8C || opcode == 0x8E) return OPERANDS_MASKED;
+    if ((opcode >= 0x2C && opcode <= 0x2F) || opcode == 0x8C || opcode == 0x8E)
+        return OPERANDS_MASKED;
     return opcode >= 0x90 && opcode <= 0x93 ? OPERANDS_GATHERED : OPERANDS_WHOLE;
 }
 
@@ -183,8 +202,10 @@ static operands operands_of_0f(unsigned char opcode, unsigned char modrm) {
     switch (opcode) {
     case 0x0D: return !is_register && digit <= 2 ? OPERANDS_PREFETCHED : OPERANDS_WHOLE;
     case 0x18: return !is_register && digit <= 3 ? OPERANDS_PREFETCHED : OPERANDS_WHOLE;
-    case 0xA3: case 0xAB: case 0xB3: case 0xBB: return is_register ? OPERANDS_NONE : OPERANDS_WHOLE; /* bt, bts, btr, btc */
-    case 0xAE: return !is_register && digit <= 1 ? OPERANDS_OF_512 : OPERANDS_WHOLE; /* fxsave, fxrstor */
+    /* bt, bts, btr, btc */
+    case 0xA3: case 0xAB: case 0xB3: case 0xBB: return is_register ? OPERANDS_NONE : OPERANDS_WHOLE;
+    /* fxsave, fxrstor */
+    case 0xAE: return !is_register && digit <= 1 ? OPERANDS_OF_512 : OPERANDS_WHOLE;
     case 0xF7: return OPERANDS_STORED; /* maskmovq, maskmovdqu */
     default: return OPERANDS_WHOLE;
     }
@@ -211,7 +232,8 @@ operand_address address_of_bytes(const unsigned char *bytes, unsigned length) {
     const unsigned char *at = read_prefixes(&p, bytes, bytes + length) + 2;
     unsigned char modrm = *at++;
     unsigned mode = modrm >> 6, low = modrm & 7;
-    operand_address a = {.base = (int)(low | (p.rex & 1u) << 3), .index = NO_REGISTER, .is_short = p.is_short};
+    operand_address a = {
+        .base = (int)(low | (p.rex & 1u) << 3), .index = NO_REGISTER, .is_short = p.is_short};
     a.segment = p.segment;
     if (low == 4) {
         unsigned char sib = *at++;
@@ -229,7 +251,9 @@ operand_address address_of_bytes(const unsigned char *bytes, unsigned length) {
 
 /* -- instructions that can't be run -- */
 
-bool is_undefined_by_intent(const unsigned char *bytes) { return bytes[0] == 0x0F && (bytes[1] == 0x0B || bytes[1] == 0xB9 || bytes[1] == 0xFF); }
+bool is_undefined_by_intent(const unsigned char *bytes) {
+    return bytes[0] == 0x0F && (bytes[1] == 0x0B || bytes[1] == 0xB9 || bytes[1] == 0xFF);
+}
 
 /* EVEX, and VEX of the instructions of mask registers. */
 bool is_of_avx512(const unsigned char *bytes) {
@@ -237,6 +261,8 @@ bool is_of_avx512(const unsigned char *bytes) {
     if (bytes[0] != 0xC4 && bytes[0] != 0xC5) return false;
     bool is_short = bytes[0] == 0xC5;
     unsigned char map = is_short ? 1 : bytes[1] & 31, opcode = is_short ? bytes[2] : bytes[3];
-    if (map == 1) return (opcode >= 0x41 && opcode <= 0x4B) || (opcode >= 0x90 && opcode <= 0x93) || opcode == 0x98 || opcode == 0x99;
+    if (map == 1)
+        return (opcode >= 0x41 && opcode <= 0x4B) || (opcode >= 0x90 && opcode <= 0x93) ||
+               opcode == 0x98 || opcode == 0x99;
     return map == 3 && opcode >= 0x30 && opcode <= 0x33;
 }

@@ -4,7 +4,8 @@
 
 #include <stdbool.h>
 
-/* A class is one of these in the low four bits. Floating-point arithmetic has its width there, and above it whether it counts twice. */
+/* A class is one of these in the low four bits. Floating-point arithmetic has its width there, and
+ * above it whether it counts twice. */
 enum {
     PLAIN, /* no branch and no arithmetic */
     CONDITIONAL,
@@ -24,16 +25,19 @@ enum {
 #define CLASS_BITS 0x0f
 #define TWICE 0x10
 #define REPEATS 0x20 /* an instruction on strings that goes on by itself */
-#define LOCKS 0x40   /* changes memory in one piece: Valgrind tries that until nothing came between */
+/* Changes memory in one piece: Valgrind tries that until nothing came between. */
+#define LOCKS 0x40
 
 /* The class of the instruction in these bytes. */
 unsigned char class_of_bytes(const unsigned char *bytes, unsigned length);
 
 /* What an instruction of floating-point arithmetic does with each element of its width. */
-typedef enum { ADDS, MULTIPLIES, DIVIDES, FUSES, DOES_OTHER } operation; /* DIVIDES: roots too; DOES_OTHER: such as max, or several of these */
+/* DIVIDES: roots too; DOES_OTHER: such as max, or several of these */
+typedef enum { ADDS, MULTIPLIES, DIVIDES, FUSES, DOES_OTHER } operation;
 operation operation_of_bytes(const unsigned char *bytes, unsigned length);
 
-/* Whether the instruction locks memory: by its prefix, or as an exchange with memory does by itself. */
+/* Whether the instruction locks memory: by its prefix, or as an exchange with memory does by
+ * itself. */
 bool locks_memory(const unsigned char *bytes, unsigned length);
 
 /* What an instruction's accesses are, beside Valgrind's own code for it. */

@@ -36,14 +36,17 @@ enum { AT_NULL = 0, AT_ENTRY = 9, AT_RANDOM = 25 };
 
 /* -- the program's beginning -- */
 
-/* The random bytes that the system gives are other ones each time, and so is their address. Their place is taken by bytes of the environment's padding. */
+/* The random bytes that the system gives are other ones each time, and so is their address. Their
+ * place is taken by bytes of the environment's padding. */
 static void fix_random_bytes(UWord *word, HChar *const *environment) {
     for (; *environment; environment++)
-        if (!VG_(strncmp)(*environment, PADDING, VG_(strlen)(PADDING)) && VG_(strlen)(*environment) >= VG_(strlen)(PADDING) + RANDOM_BYTES)
+        if (!VG_(strncmp)(*environment, PADDING, VG_(strlen)(PADDING)) &&
+            VG_(strlen)(*environment) >= VG_(strlen)(PADDING) + RANDOM_BYTES)
             *word = (UWord)(*environment + VG_(strlen)(PADDING));
 }
 
-/* Reads the stack as it is before the first instruction: the words, the environment, and what the system tells. Gives the program's entry. */
+/* Reads the stack as it is before the first instruction: the words, the environment, and what the
+ * system tells. Gives the program's entry. */
 static Addr read_stack(const UWord *at) {
     Addr entry = 0;
     UWord count = *at++;
@@ -62,7 +65,8 @@ void program_is_loaded(void) {
     if (is_known) return;
     is_known = True;
     ThreadId tid = VG_(get_running_tid)();
-    Addr entry = read_stack((const UWord *)VG_(get_SP)(tid)), base = words.entry ? entry - words.entry : 0;
+    Addr entry = read_stack((const UWord *)VG_(get_SP)(tid)),
+         base = words.entry ? entry - words.entry : 0;
     streams_begin(base);
     if (words.from_entry) counting_from = entry;
     functions_begin(entry);
@@ -83,7 +87,8 @@ static void print_totals(const core *c) {
     ULong counts[ALL_KINDS];
     core_counts(c, counts);
     for (UInt i = 0; i < ALL_KINDS; i++)
-        if (counts[i] && kind_names[i]) VG_(umsg)("thread %u %s %llu\n", c->number, kind_names[i], counts[i]);
+        if (counts[i] && kind_names[i])
+            VG_(umsg)("thread %u %s %llu\n", c->number, kind_names[i], counts[i]);
 }
 
 void thread_begins(ThreadId parent, ThreadId tid) {
@@ -125,7 +130,9 @@ static Bool is_exec(UInt number) { return number == __NR_execve || number == __N
 /* The program's text at an address: False if it is not all there. */
 static Bool read_text(Addr from, HChar *to, SizeT size) {
     for (SizeT i = 0; i < size; i++, from++) {
-        if ((!i || !(from & (VKI_PAGE_SIZE - 1))) && !VG_(am_is_valid_for_client)(from, 1, VKI_PROT_READ)) return False;
+        if ((!i || !(from & (VKI_PAGE_SIZE - 1))) &&
+            !VG_(am_is_valid_for_client)(from, 1, VKI_PROT_READ))
+            return False;
         to[i] = *(const HChar *)from;
         if (!to[i]) return True;
     }
@@ -179,7 +186,8 @@ void signal_comes(ThreadId tid, Int number, Bool is_on_other_stack) {
     core *c = core_of(tid);
     (void)is_on_other_stack;
     if (!c || current != c || !c->at) return;
-    if (number == VKI_SIGSEGV || number == VKI_SIGBUS || number == VKI_SIGFPE) count_up_to(c, c->at, VG_(get_IP)(tid));
+    if (number == VKI_SIGSEGV || number == VKI_SIGBUS || number == VKI_SIGFPE)
+        count_up_to(c, c->at, VG_(get_IP)(tid));
 }
 
 void forget_block(Addr first, VexGuestExtents extents) {
@@ -190,10 +198,12 @@ void forget_block(Addr first, VexGuestExtents extents) {
 void instruction_is_refused(Addr pc) {
     static Bool is_told;
     UChar bytes[FIRST_BYTES] = {0};
-    for (Addr i = 0; i < FIRST_BYTES && VG_(am_is_valid_for_client)(pc + i, 1, VKI_PROT_READ); i++) bytes[i] = ((const UChar *)pc)[i];
+    for (Addr i = 0; i < FIRST_BYTES && VG_(am_is_valid_for_client)(pc + i, 1, VKI_PROT_READ); i++)
+        bytes[i] = ((const UChar *)pc)[i];
     if (is_told || is_undefined_by_intent(bytes)) return;
     is_told = True;
-    const HChar *form = is_of_avx512(bytes) ? "the instruction at 0x%lx is one of AVX-512, which Valgrind does not have: compile with -mno-avx512f"
+    const HChar *form = is_of_avx512(bytes) ? "the instruction at 0x%lx is one of AVX-512, which "
+                                              "Valgrind does not have: compile with -mno-avx512f"
                                             : "Valgrind does not have the instruction at 0x%lx";
     HChar line[LONGEST_LINE];
     VG_(snprintf)(line, sizeof line, form, pc);
@@ -205,11 +215,13 @@ void instruction_is_refused(Addr pc) {
 
 static void tell_totals(void) {
     const ULong *totals = tape_totals();
-    for (UInt kind = 0; kind < KL_KINDS; kind++) report("total %s %llu", kind_names[kind], totals[kind]);
+    for (UInt kind = 0; kind < KL_KINDS; kind++)
+        report("total %s %llu", kind_names[kind], totals[kind]);
     if (words.has_further) {
         ULong counts[ALL_KINDS];
         all_counts(counts);
-        for (UInt kind = LOCKED; kind < ALL_KINDS; kind++) report("total %s %llu", kind_names[kind], counts[kind]);
+        for (UInt kind = LOCKED; kind < ALL_KINDS; kind++)
+            report("total %s %llu", kind_names[kind], counts[kind]);
     }
     report("calls %llu", calls_made());
     report("from %d", counting_has_begun());

@@ -1,4 +1,5 @@
-/* What Valgrind's core tells of the program: its beginning and end, its threads, signals and system calls. */
+/* What Valgrind's core tells of the program: its beginning and end, its threads, signals and system
+ * calls. */
 #ifndef EVENTS_H
 #define EVENTS_H
 #include "pub_tool_basics.h"

@@ -129,8 +129,8 @@ static void leave(core *c, Addr sp) {
 
 void frames_leave(Addr sp) { leave(current, sp); }
 
-/* A function that jumps to its own beginning is not called again. If functions are named, others are
- * followed in calls of these alone. */
+/* A function that jumps to its own beginning is not called again. If functions are named, others
+ * are followed in calls of these alone. */
 void frames_enter(function *of, Addr sp) {
     core *c = current;
     if (c->is_uncounted) return;

@@ -24,8 +24,12 @@ Bool has_library;
 #define OPCODES_OF_LOOPS 0xE0 /* and of jrcxz */
 
 static UInt kind_of_class(const code *c) { return c->class & CLASS_BITS; }
-static Bool is_conditional(const code *c) { return c->is_counted && kind_of_class(c) == CONDITIONAL; }
-static Bool is_branch(const code *c) { return kind_of_class(c) >= CONDITIONAL && kind_of_class(c) <= RETURN; }
+static Bool is_conditional(const code *c) {
+    return c->is_counted && kind_of_class(c) == CONDITIONAL;
+}
+static Bool is_branch(const code *c) {
+    return kind_of_class(c) >= CONDITIONAL && kind_of_class(c) <= RETURN;
+}
 static Bool is_of_library(Addr pc) { return pc >= library_first && pc < library_end; }
 
 /* -- instructions -- */
@@ -48,7 +52,8 @@ static void branch_ends(code *c, Bool is_known, Addr next) {
         code_notes(c, kinds[class], c->pc, 1, IN_ACCESS, NULL);
     }
     if (!is_conditional(c) || c->is_branch_seen) return;
-    Bool taken = is_known && next != c->pc + c->size; /* what it does was known when it was translated */
+    /* What it does was known when it was translated. */
+    Bool taken = is_known && next != c->pc + c->size;
     if (!code_counts_outcomes()) code_happens(c, taken ? KL_TAKEN : KL_NOT_TAKEN, 1);
     code_branches(c, IRExpr_Const(IRConst_U1(taken)));
     c->line = c->number + 1;
@@ -72,12 +77,16 @@ static void notes_if_coded(code *c, UInt kind, UInt amount, UInt phase, IRExpr *
 
 /* The operations on each element. A fused one is two. */
 static void computes_elements(code *c, UInt class) {
-    static const UChar elements[] = {[SCALAR_DOUBLE] = 1, [SCALAR_SINGLE] = 1, [DOUBLE_128] = 2, [SINGLE_128] = 4, [DOUBLE_256] = 4, [SINGLE_256] = 8, [DOUBLE_512] = 8, [SINGLE_512] = 16};
+    static const UChar elements[] = {
+        [SCALAR_DOUBLE] = 1, [SCALAR_SINGLE] = 1, [DOUBLE_128] = 2, [SINGLE_128] = 4,
+        [DOUBLE_256] = 4,    [SINGLE_256] = 8,    [DOUBLE_512] = 8, [SINGLE_512] = 16};
     if (class == X87) return;
     operation does = operation_of_bytes((const UChar *)c->pc, c->size);
     if (does == DOES_OTHER) return;
-    Bool of_doubles = class == SCALAR_DOUBLE || class == DOUBLE_128 || class == DOUBLE_256 || class == DOUBLE_512;
-    UInt kind = (of_doubles ? KL_ADDED_DOUBLES : KL_ADDED_SINGLES) + (UInt)does, amount = elements[class] * (does == FUSES ? 2u : 1u);
+    Bool of_doubles =
+        class == SCALAR_DOUBLE || class == DOUBLE_128 || class == DOUBLE_256 || class == DOUBLE_512;
+    UInt kind = (of_doubles ? KL_ADDED_DOUBLES : KL_ADDED_SINGLES) + (UInt)does,
+         amount = elements[class] * (does == FUSES ? 2u : 1u);
     code_happens(c, kind, (Int)amount);
     notes_if_coded(c, kind, amount, IN_FETCH, NULL);
 }
@@ -91,9 +100,11 @@ static void instruction_computes(code *c) {
     computes_elements(c, class);
 }
 
-/* Counting begins at the first entry of a function. Where this is inside of a block, it begins with the next one. */
+/* Counting begins at the first entry of a function. Where this is inside of a block, it begins with
+ * the next one. */
 static void begins_here(code *c) {
-    if (c->pc == counting_from && !counting_has_begun()) code_call(c, NULL, "counting_begins", counting_begins, mkIRExprVec_0());
+    if (c->pc == counting_from && !counting_has_begun())
+        code_call(c, NULL, "counting_begins", counting_begins, mkIRExprVec_0());
 }
 
 static void instruction_begins(code *c, Addr pc, UInt size) {
@@ -124,7 +135,8 @@ static void instruction_begins(code *c, Addr pc, UInt size) {
 
 /* -- exits -- */
 
-/* Whether a branch is counted by its guard. If not it is counted as if it left, and put right behind the exit. */
+/* Whether a branch is counted by its guard. If not it is counted as if it left, and put right
+ * behind the exit. */
 static Bool is_by_guard(void) {
     return has_predictor() || words.has_tape || is_armed[KL_TAKEN] || is_armed[KL_NOT_TAKEN];
 }
@@ -135,7 +147,8 @@ static void branch_leaves(code *c, IRExpr *guard, Bool leaves_taken) {
         code_happens(c, leaves_taken ? LEFT_TAKEN : LEFT_NOT_TAKEN, 1);
         return;
     }
-    IRExpr *not_guard = code_make(c, Ity_I1, IRExpr_Unop(Iop_Not1, guard)), *taken = leaves_taken ? guard : not_guard;
+    IRExpr *not_guard = code_make(c, Ity_I1, IRExpr_Unop(Iop_Not1, guard)),
+           *taken = leaves_taken ? guard : not_guard;
     if (!code_counts_outcomes()) {
         code_may_happen(c, KL_TAKEN, taken);
         code_may_happen(c, KL_NOT_TAKEN, leaves_taken ? not_guard : guard);
@@ -144,10 +157,12 @@ static void branch_leaves(code *c, IRExpr *guard, Bool leaves_taken) {
     c->line = c->number + 1;
 }
 
-/* Whether a branch that goes to the instruction behind it, taken or not, is taken where VEX leaves the block for it: so it is but for conditions with an odd code, since VEX
- * asks for their opposites. */
+/* Whether a branch that goes to the instruction behind it, taken or not, is taken where VEX leaves
+ * the block for it: so it is but for conditions with an odd code, since VEX asks for their
+ * opposites. */
 static Bool goes_on_taken(const code *c) {
-    const UChar *end = (const UChar *)(c->pc + c->size), *displacement = end - (c->size >= SIZE_OF_NEAR ? 4 : 1);
+    const UChar *end = (const UChar *)(c->pc + c->size),
+                *displacement = end - (c->size >= SIZE_OF_NEAR ? 4 : 1);
     for (const UChar *byte = displacement; byte < end; byte++)
         if (*byte) return False;
     UChar opcode = displacement[-1];
@@ -171,7 +186,8 @@ static void leave(code *c, IRStmt *exit) {
     }
     code_flushes(c);
     addStmtToIRSB(c->out, exit);
-    if (is_branch_now && !is_by_guard()) code_happens(c, leaves_taken ? STAYED_NOT_TAKEN : STAYED_TAKEN, 1);
+    if (is_branch_now && !is_by_guard())
+        code_happens(c, leaves_taken ? STAYED_NOT_TAKEN : STAYED_TAKEN, 1);
 }
 
 /* -- accesses -- */
@@ -181,7 +197,8 @@ static void count_access(code *c, const access *a, UInt kind) {
     else code_happens(c, kind, 1);
 }
 
-/* An access in the line in which the last turn had one is none. What is stored has the second place. */
+/* An access in the line in which the last turn had one is none. What is stored has the second
+ * place. */
 static void guards_by_line(code *c, access *a) {
     UInt place = a->loads ? c->loads++ : 1;
     if (place >= OPERANDS_OF_REP) return;
@@ -235,24 +252,35 @@ static void block_ends(code *c, const IRSB *in) {
     Bool is_known = in->next->tag == Iex_Const;
     Addr next = is_known ? (Addr)in->next->Iex.Const.con->Ico.U64 : 0;
     instruction_ends(c, is_known, next);
-    if (in->jumpkind == Ijk_NoDecode) code_call(c, NULL, "instruction_is_refused", instruction_is_refused, mkIRExprVec_1(code_word(next)));
-    if (c->is_counted) code_leaves_line_open(c, NULL, c->class & REPEATS && is_known && next == c->pc);
+    if (in->jumpkind == Ijk_NoDecode)
+        code_call(c, NULL, "instruction_is_refused", instruction_is_refused,
+                  mkIRExprVec_1(code_word(next)));
+    if (c->is_counted)
+        code_leaves_line_open(c, NULL, c->class & REPEATS && is_known && next == c->pc);
     code_flushes(c);
     code_leaves_functions(c, in);
     code_checks_beginning(c);
     keep_shares(c);
 }
 
-IRSB *instrument(VgCallbackClosure *closure, IRSB *in, const VexGuestLayout *guest_layout, const VexGuestExtents *extents, const VexArchInfo *host, IRType guest_word,
+IRSB *instrument(VgCallbackClosure *closure, IRSB *in, const VexGuestLayout *guest_layout,
+                 const VexGuestExtents *extents, const VexArchInfo *host, IRType guest_word,
                  IRType host_word) {
     static share *shares;
     static UInt shares_room;
-    program_is_loaded(); /* the first block is translated before the core says that the program goes on */
-    code whole = {.out = deepCopyIRSBExceptStmts(in), .of = block_of(closure->nraddr, in), .first = closure->readdr, .shares = shares, .shares_room = shares_room}, *c = &whole;
+    /* The first block is translated before the core says that the program goes on. */
+    program_is_loaded();
+    code whole = {.out = deepCopyIRSBExceptStmts(in),
+                  .of = block_of(closure->nraddr, in),
+                  .first = closure->readdr,
+                  .shares = shares,
+                  .shares_room = shares_room},
+         *c = &whole;
     c->is_redirected = closure->readdr != closure->nraddr;
     Int i = 0;
     (void)guest_layout, (void)extents, (void)host, (void)guest_word, (void)host_word;
-    while (i < in->stmts_used && in->stmts[i]->tag != Ist_IMark) addStmtToIRSB(c->out, in->stmts[i++]);
+    while (i < in->stmts_used && in->stmts[i]->tag != Ist_IMark)
+        addStmtToIRSB(c->out, in->stmts[i++]);
     for (; i < in->stmts_used; i++) {
         IRStmt *s = in->stmts[i];
         if (s->tag == Ist_Exit) {

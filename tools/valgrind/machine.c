@@ -15,11 +15,15 @@ static unsigned bits_of(uint64_t power) {
 }
 
 bool shape_is_right(const shape *s) {
-    if (!is_power_of_two(s->bytes_of_line) || s->ways < 1 || s->ways > MOST_WAYS || s->lines > MOST_LINES || s->lines % s->ways) return false;
+    if (!is_power_of_two(s->bytes_of_line) || s->ways < 1 || s->ways > MOST_WAYS ||
+        s->lines > MOST_LINES || s->lines % s->ways)
+        return false;
     return is_power_of_two(s->lines / s->ways);
 }
 
-size_t cache_room(const shape *s) { return s->lines ? (s->lines + s->lines / s->ways) * sizeof(uint64_t) : 0; }
+size_t cache_room(const shape *s) {
+    return s->lines ? (s->lines + s->lines / s->ways) * sizeof(uint64_t) : 0;
+}
 
 void cache_begins(cache *c, const shape *s, void *room) {
     if (!s->lines) {

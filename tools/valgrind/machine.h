@@ -1,4 +1,5 @@
-/* What a program's accesses and branches meet: caches and translation buffers that keep what was used last, and a predictor of branches. */
+/* What a program's accesses and branches meet: caches and translation buffers that keep what was
+ * used last, and a predictor of branches. */
 #ifndef MACHINE_H
 #define MACHINE_H
 
@@ -10,7 +11,8 @@
 #define MOST_LINES (1u << 24)
 #define MOST_PREDICTOR_BITS 24
 
-/* The sizes of a cache: lines in all, lines in a set, bytes in a line. Without lines it is left out. */
+/* The sizes of a cache: lines in all, lines in a set, bytes in a line. Without lines it is left
+ * out. */
 typedef struct { uint64_t lines, ways, bytes_of_line; } shape;
 
 /* Lines, or pages, in sets of `ways`. */
@@ -26,7 +28,8 @@ typedef struct {
  * this bit too. A set of lines has the bit of its number modulo 64 in `known`. */
 #define IS_UNKNOWN (UINT64_C(1) << 63)
 
-/* Gshare: counters of two bits, found by the branch's address and what the branches before it did. */
+/* Gshare: counters of two bits, found by the branch's address and what the branches before it
+ * did. */
 typedef struct { uint64_t history, last; uint8_t *counters; } predictor;
 
 /* The next state of a counter, by 4 * taken + its state. */
@@ -35,7 +38,8 @@ extern const uint8_t next_state[8];
 /* Whether this is a cache's shape: powers of two, within the limits. */
 bool shape_is_right(const shape *s);
 
-/* The bytes that a cache needs, and the cache made empty in as many bytes at an address that is a multiple of 64. */
+/* The bytes that a cache needs, and the cache made empty in as many bytes at an address that is a
+ * multiple of 64. */
 size_t cache_room(const shape *s);
 void cache_begins(cache *c, const shape *s, void *room);
 

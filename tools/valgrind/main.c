@@ -1,5 +1,6 @@
-/* A tool of Valgrind that counts what each thread of a program does while it runs: instructions, accesses, branches, floating-point operations, and the misses of a
- * modelled machine. It writes them as a stream, or answers the library inside the program (protocol.h). */
+/* A tool of Valgrind that counts what each thread of a program does while it runs: instructions,
+ * accesses, branches, floating-point operations, and the misses of a modelled machine. It writes
+ * them as a stream, or answers the library inside the program (protocol.h). */
 #include "pub_tool_basics.h"
 #include "pub_tool_libcbase.h"
 #include "pub_tool_libcprint.h"
@@ -34,7 +35,8 @@ static void begin_words(void) {
     VG_(details_name)("kistalub");
     VG_(details_version)(NULL);
     VG_(details_description)("counts of a program while it runs");
-    VG_(details_copyright_author)("Copyright (c) the Kistalub authors; as linked with Valgrind under the GNU GPL.");
+    VG_(details_copyright_author)
+    ("Copyright (c) the Kistalub authors; as linked with Valgrind under the GNU GPL.");
     VG_(details_bug_reports_to)("the Kistalub authors");
     VG_(details_avg_translation_sizeB)(700);
     VG_(basic_tool_funcs)(begin, instrument, events_end);
@@ -48,8 +50,10 @@ static void begin_words(void) {
     VG_(track_stop_client_code)(turns_code_stops);
     VG_(track_pre_deliver_signal)(signal_comes);
     VG_(clo_show_below_main) = True; /* the names of functions are their own */
-    VG_(clo_vex_control).guest_chase = False;    /* else a block may be run before it is known to be reached */
-    VG_(clo_vex_control).iropt_unroll_thresh = 0; /* else an instruction may stand twice in a block */
+    /* else a block may be run before it is known to be reached */
+    VG_(clo_vex_control).guest_chase = False;
+    /* else an instruction may stand twice in a block */
+    VG_(clo_vex_control).iropt_unroll_thresh = 0;
 }
 
 VG_DETERMINE_INTERFACE_VERSION(begin_words)

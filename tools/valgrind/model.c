@@ -6,15 +6,35 @@
 #include "thresholds.h"
 #include "words.h"
 
-enum { OWN_MISS, L2_HIT, L2_MISS, L3_HIT, L3_MISS, PAGE_MISS, CYCLES, STALLS, OWN_HIT, SPLIT, STORE_SPLIT, MADE_HERE };
+enum {
+    OWN_MISS,
+    L2_HIT,
+    L2_MISS,
+    L3_HIT,
+    L3_MISS,
+    PAGE_MISS,
+    CYCLES,
+    STALLS,
+    OWN_HIT,
+    SPLIT,
+    STORE_SPLIT,
+    MADE_HERE
+};
 enum { MISPREDICTED_NOT_TAKEN, MISPREDICTED_TAKEN };
 
 static const UChar kinds[4][MADE_HERE] = {
-    [BY_LOAD] = {KL_L1D_LOAD_MISSES, KL_L2_LOAD_HITS, KL_L2_LOAD_MISSES, KL_L3_LOAD_HITS, KL_L3_LOAD_MISSES, KL_DTLB_LOAD_MISSES, KL_CYCLES, KL_STALLS, LOAD_HITS, KL_SPLIT_LOADS,
-                 KL_SPLIT_STORES},
-    [BY_STORE] = {KL_L1D_STORE_MISSES, KL_L2_STORE_HITS, KL_L2_STORE_MISSES, KL_L3_STORE_HITS, KL_L3_STORE_MISSES, KL_DTLB_STORE_MISSES, KL_CYCLES, KL_STALLS, [SPLIT] = KL_SPLIT_STORES},
-    [BY_FETCH] = {KL_L1I_MISSES, KL_L2_FETCH_HITS, KL_L2_FETCH_MISSES, KL_L3_FETCH_HITS, KL_L3_FETCH_MISSES, KL_ITLB_MISSES, KL_CYCLES, KL_STALLS},
-    [BY_BRANCH] = {[MISPREDICTED_NOT_TAKEN] = KL_MISPREDICTED_NOT_TAKEN, [MISPREDICTED_TAKEN] = KL_MISPREDICTED_TAKEN, [CYCLES] = KL_CYCLES, [STALLS] = KL_STALLS},
+    [BY_LOAD] = {KL_L1D_LOAD_MISSES, KL_L2_LOAD_HITS, KL_L2_LOAD_MISSES, KL_L3_LOAD_HITS,
+                 KL_L3_LOAD_MISSES, KL_DTLB_LOAD_MISSES, KL_CYCLES, KL_STALLS, LOAD_HITS,
+                 KL_SPLIT_LOADS, KL_SPLIT_STORES},
+    [BY_STORE] = {KL_L1D_STORE_MISSES, KL_L2_STORE_HITS, KL_L2_STORE_MISSES, KL_L3_STORE_HITS,
+                  KL_L3_STORE_MISSES, KL_DTLB_STORE_MISSES, KL_CYCLES,
+                  KL_STALLS, [SPLIT] = KL_SPLIT_STORES},
+    [BY_FETCH] = {KL_L1I_MISSES, KL_L2_FETCH_HITS, KL_L2_FETCH_MISSES, KL_L3_FETCH_HITS,
+                  KL_L3_FETCH_MISSES, KL_ITLB_MISSES, KL_CYCLES, KL_STALLS},
+    [BY_BRANCH] = {[MISPREDICTED_NOT_TAKEN] = KL_MISPREDICTED_NOT_TAKEN,
+                   [MISPREDICTED_TAKEN] = KL_MISPREDICTED_TAKEN,
+                   [CYCLES] = KL_CYCLES,
+                   [STALLS] = KL_STALLS},
 };
 
 static void put_on_tape(core *c, site *s, UInt what, UInt amount) {
@@ -64,9 +84,11 @@ static void use(const cache *part, Addr address) {
     if (part->tags) *set_of(part, line_of_address(part, address)) = line_of_address(part, address);
 }
 
-/* An access that needs the next line too. Generated code comes here with each that is not aligned. */
+/* An access that needs the next line too. Generated code comes here with each that is not
+ * aligned. */
 static void splits(core *c, site *s, Addr address, const cache *lines) {
-    if (!lines->tags || address >> lines->line_bits == (address + s->size - 1) >> lines->line_bits) return;
+    if (!lines->tags || address >> lines->line_bits == (address + s->size - 1) >> lines->line_bits)
+        return;
     happens(c, s, SPLIT);
     if (s->stores_too) happens(c, s, STORE_SPLIT);
 }
@@ -111,7 +133,8 @@ void model_sees_fetch(site *s) { meet(current, s, s->pc, &current->itlb, &curren
 void model_sees_branch(site *s, ULong taken, ULong errs) {
     core *c = current;
     if (s->items) {
-        if (has_no_room(c, s->line.slot) || has_no_room(c, s->line.slot + 1)) tape_sees_line(&s->line);
+        if (has_no_room(c, s->line.slot) || has_no_room(c, s->line.slot + 1))
+            tape_sees_line(&s->line);
         if (has_no_room(c, s->branch[taken].slot)) tape_sees_item(s->branch + taken);
     }
     if (!errs || c->is_uncounted) return;

@@ -21,7 +21,9 @@ struct stream {
     ULong bytes;
 };
 
-static stream *whole, *early; /* whole: of all threads, if there is one descriptor for them; early: begun before the first line is known */
+/* whole: of all threads, if there is one descriptor for them; early: begun before the first line is
+ * known */
+static stream *whole, *early;
 static Int reports = -1;
 static HChar head[64];
 static Bool is_closed;

@@ -1,4 +1,5 @@
-/* Files that the tool writes: streams, and what it reports. The program does not see their descriptors. */
+/* Files that the tool writes: streams, and what it reports. The program does not see their
+ * descriptors. */
 #ifndef OUTPUT_H
 #define OUTPUT_H
 #include "pub_tool_basics.h"

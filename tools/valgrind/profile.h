@@ -1,7 +1,8 @@
 /* What each line of source does by itself, each function with all that it calls, and each call.
  *
  * Code counts how often its parts run, and what its guards and branches do, in counters of its
- * block. They are shared out among the lines of its instructions when the block is gone, or at the end. */
+ * block. They are shared out among the lines of its instructions when the block is gone, or at the
+ * end. */
 #ifndef PROFILE_H
 #define PROFILE_H
 #include "code.h"

@@ -12,15 +12,18 @@
 #define FIRST_TABLE 8192
 #define NO_PLACE (~(Addr)0)
 
-typedef struct { Addr pc; UInt kind; full_lines *lines; } slot; /* lines: made when they are asked for */
+/* lines: made when they are asked for */
+typedef struct { Addr pc; UInt kind; full_lines *lines; } slot;
 
 static slot *slots; /* the first two are none */
-static UInt used = 2, room, *table, last_place; /* table: by their checksums, 0 where there is none */
+/* table: by their checksums, 0 where there is none */
+static UInt used = 2, room, *table, last_place;
 static Int *idle, *full;
 
 static UInt place_of(UInt kind, Addr pc) {
     UInt place = (UInt)((pc * 64 + kind) * 0x9e3779b97f4a7c15UL >> 32) & last_place;
-    while (table[place] && (slots[table[place]].pc != pc || slots[table[place]].kind != kind)) place = (place + 1) & last_place;
+    while (table[place] && (slots[table[place]].pc != pc || slots[table[place]].kind != kind))
+        place = (place + 1) & last_place;
     return place;
 }
 
@@ -68,14 +71,16 @@ Addr slot_pc(UInt number) { return slots[number].pc; }
 
 static void make_line(full_line *line, event_code of, Addr pc) {
     line->digits = (UChar)VG_(sprintf)(line->text, CODE_FORMAT " ", of.select, of.umask);
-    line->place = (UChar)(line->digits + VG_(sprintf)(line->text + line->digits, "%d", words.most_amount));
+    line->place =
+        (UChar)(line->digits + VG_(sprintf)(line->text + line->digits, "%d", words.most_amount));
     line->length = (UChar)(line->place + VG_(sprintf)(line->text + line->place, " %lx\n", pc));
 }
 
 static full_lines *make_lines(const slot *s) {
     const kind_codes *codes = words.codes + s->kind;
     full_lines *lines = VG_(calloc)("slots", 1, sizeof *lines + codes->count * sizeof *lines->of);
-    for (; lines->count < codes->count; lines->count++) make_line(&lines->of[lines->count], codes->of[lines->count], s->pc);
+    for (; lines->count < codes->count; lines->count++)
+        make_line(&lines->of[lines->count], codes->of[lines->count], s->pc);
     return lines;
 }
 

@@ -10,12 +10,14 @@
 
 void slots_begin(void);
 
-/* The slot of a kind at a place. That of INSTRUCTIONS has an even number, and that of CYCLES comes behind it. */
+/* The slot of a kind at a place. That of INSTRUCTIONS has an even number, and that of CYCLES comes
+ * behind it. */
 UInt slot_of(UInt kind, Addr pc);
 UInt slot_kind(UInt slot);
 Addr slot_pc(UInt slot);
 
-/* A line with the most that a line has. The amount stands from `digits` on, and the place from `place` on. */
+/* A line with the most that a line has. The amount stands from `digits` on, and the place from
+ * `place` on. */
 typedef struct { UChar digits, place, length; HChar text[45]; } full_line;
 
 /* The lines of a slot, by the codes of the tool's words. A kind may have none. */
@@ -26,7 +28,8 @@ const full_lines *slot_lines(UInt slot);
 Int *new_rooms(void);
 void delete_rooms(Int *rooms);
 
-/* Rooms that are never used up, for what is not noted; and rooms in which nothing has place, so that all calls. */
+/* Rooms that are never used up, for what is not noted; and rooms in which nothing has place, so
+ * that all calls. */
 Int *idle_rooms(void);
 Int *full_rooms(void);
 

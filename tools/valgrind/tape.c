@@ -19,15 +19,19 @@ struct tape {
     UInt used, order_room, window;
     Bool is_noting;
 
-    Addr line_pc, line_end; /* the straight line of instructions that goes on: its first address, and what follows it */
+    /* The straight line of instructions that goes on: its first address, and what follows it. */
+    Addr line_pc, line_end;
     UInt line_count;        /* its instructions so far, 0 if none goes on */
     Addr turning;           /* the instruction that repeats itself now */
-    Long window_base;       /* the count of instructions at which the window began; one that is turning is not in that count yet */
+    /* The count of instructions at which the window began; one that is turning is not in that count
+     * yet. */
+    Long window_base;
 
     const block *slow; /* the block that runs slowly */
     UInt next, begun;  /* its instruction that comes next, and how many begun as its code says */
     Bool is_next_begun;
-    Long in_window, counted; /* instructions of the window, and those of the thread when the block began */
+    /* instructions of the window, and those of the thread when the block began */
+    Long in_window, counted;
 };
 
 static ULong totals[LINE_KINDS], seen, shown;
@@ -53,7 +57,8 @@ tape *new_tape(core *c) {
 static void write_full_line(const tape *t, UInt slot) {
     const full_lines *lines = slot_lines(slot);
     totals[slot_kind(slot)] += (ULong)words.most_amount;
-    for (UInt i = 0; i < lines->count; i++) stream_puts(t->out, lines->of[i].text, lines->of[i].length, slot_pc(slot));
+    for (UInt i = 0; i < lines->count; i++)
+        stream_puts(t->out, lines->of[i].text, lines->of[i].length, slot_pc(slot));
 }
 
 static void write_amount(const tape *t, const full_line *full, UInt amount, Addr pc) {
@@ -154,7 +159,9 @@ static void reach(tape *t, UInt number, Bool is_fetch) {
     else pass_next(t);
 }
 
-static void set_base(core *c, tape *t) { t->window_base = instructions_of(c) - t->in_window + (t->turning != 0); }
+static void set_base(core *c, tape *t) {
+    t->window_base = instructions_of(c) - t->in_window + (t->turning != 0);
+}
 
 static void end_slow_block(core *c, tape *t) {
     if (!t->slow) return;
@@ -188,7 +195,8 @@ void tape_sees_block(const block *b) {
     t->turning = 0;
     if (t->line_count && t->line_end != b->pc) end_line(t);
     t->in_window = instructions_of(c) - t->window_base;
-    Bool is_quick = !words.is_each && !t->line_count && !b->begins_repeated && t->in_window + b->count < words.window;
+    Bool is_quick = !words.is_each && !t->line_count && !b->begins_repeated &&
+                    t->in_window + b->count < words.window;
     if (is_quick) c->check_at = t->window_base + words.window;
     else begin_slow_block(c, t, b);
 }
@@ -244,7 +252,8 @@ void tape_sees_open_line(const open_line *o) {
     core *c = current;
     tape *t = noting_tape(c);
     if (!t) return;
-    const instruction *first = o->of->instructions + o->line, *last = o->of->instructions + o->count - 1;
+    const instruction *first = o->of->instructions + o->line,
+                      *last = o->of->instructions + o->count - 1;
     Addr turning = o->is_turn ? last->pc : 0;
     if (t->slow) t->begun = o->count;
     else if (!t->turning) {
@@ -272,7 +281,8 @@ void tape_sees_fault(core *c, const block *b, UInt number) {
     while (first && b->instructions[first - 1].segment == b->instructions[number].segment) first--;
     const open_line o = {b, (UShort)(number + 1), (UShort)first, False};
     tape_sees_open_line(&o);
-    if (!t->slow) t->window_base--; /* the one that faults is not counted, and yet it is in the window */
+    /* The one that faults is not counted, and yet it is in the window. */
+    if (!t->slow) t->window_base--;
 }
 
 void tape_leaves_block(core *c) {

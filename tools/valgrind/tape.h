@@ -1,8 +1,11 @@
-/* The lines of a stream (docs/FORMATS.md, The stream): occurrences of one kind at one place are gathered until a line is full, or the window ends.
+/* The lines of a stream (docs/FORMATS.md, The stream): occurrences of one kind at one place are
+ * gathered until a line is full, or the window ends.
  *
- * Each kind at each place has a slot. Generated code takes occurrences from the slot's room by itself; when there is no room it calls, and then a line begins
- * or is written. Where a window ends inside of a block, or a line of instructions goes on from one block to the next, the block runs slowly: each slot is
- * without room there, so that each of its occurrences calls, and all happen in the program's order. */
+ * Each kind at each place has a slot. Generated code takes occurrences from the slot's room by
+ * itself; when there is no room it calls, and then a line begins or is written. Where a window ends
+ * inside of a block, or a line of instructions goes on from one block to the next, the block runs
+ * slowly: each slot is without room there, so that each of its occurrences calls, and all happen in
+ * the program's order. */
 #ifndef TAPE_H
 #define TAPE_H
 #include "block.h"
@@ -11,7 +14,8 @@
 tape *new_tape(core *c);
 void tape_ends(core *c);
 
-/* Where in its block something happens: as a part of fetching an instruction, or as an access of it or after it. */
+/* Where in its block something happens: as a part of fetching an instruction, or as an access of it
+ * or after it. */
 typedef struct { UInt slot; UShort instruction; UChar is_fetch, amount; } item;
 
 /* Called by generated code. A pair is what a branch is if it is not taken, and if it is. */
@@ -19,10 +23,13 @@ void tape_sees_block(const block *b);
 void tape_sees_item(const item *i);
 void tape_sees_amount(const item *i, ULong amount);
 void tape_sees_branch(const item *pair, ULong taken);
-void tape_sees_line(const item *i); /* a straight line of instructions ends: so many instructions, and a cycle for each */
+/* A straight line of instructions ends: so many instructions, and a cycle for each. */
+void tape_sees_line(const item *i);
 
-/* The block is left while a straight line of instructions goes on behind it, or by a turn of an instruction that repeats itself. */
-typedef struct { const block *of; UShort count, line; Bool is_turn; } open_line; /* count: the instructions that begun; line: the first one of the straight line */
+/* The block is left while a straight line of instructions goes on behind it, or by a turn of an
+ * instruction that repeats itself. */
+/* count: the instructions that begun; line: the first one of the straight line */
+typedef struct { const block *of; UShort count, line; Bool is_turn; } open_line;
 void tape_sees_open_line(const open_line *o);
 
 /* Notes something of the model. */

@@ -8,7 +8,8 @@
 #include "words.h"
 
 #define MOST_INSTRUCTIONS 60 /* of a block, as in Libvex */
-#define MOST_LOOKS 40        /* at armed kinds behind instructions of close code, beside those behind the last one */
+/* at armed kinds behind instructions of close code, beside those behind the last one */
+#define MOST_LOOKS 40
 
 UInt armed_count;
 UChar armed_kinds[KL_KINDS];
@@ -29,7 +30,8 @@ static void place_registers(Bool places_all) {
     }
     is_known = True;
     VexRegisterUpdates now = places_all ? VexRegUpdAllregsAtEachInsn : usual;
-    vex_control.iropt_register_updates_default = VG_(clo_vex_control).iropt_register_updates_default = now;
+    vex_control.iropt_register_updates_default =
+        VG_(clo_vex_control).iropt_register_updates_default = now;
     VG_(clo_px_file_backed) = places_all ? now : usual_file_backed;
 }
 
@@ -40,11 +42,15 @@ static Bool has_threshold(UInt kind) {
 }
 
 static Bool is_of_machine(UInt kind) {
-    Bool is_miss = (kind >= KL_L1D_LOAD_MISSES && kind <= KL_ITLB_MISSES) || kind == KL_SPLIT_LOADS || kind == KL_SPLIT_STORES, is_erred = kind == KL_MISPREDICTED_TAKEN || kind == KL_MISPREDICTED_NOT_TAKEN;
-    return words.has_model && (is_miss || is_erred || kind == KL_CYCLES || kind == KL_STALLS);
+    Bool is_miss = (kind >= KL_L1D_LOAD_MISSES && kind <= KL_ITLB_MISSES) ||
+                   kind == KL_SPLIT_LOADS || kind == KL_SPLIT_STORES,
+         is_mispredicted = kind == KL_MISPREDICTED_TAKEN || kind == KL_MISPREDICTED_NOT_TAKEN;
+    return words.has_model &&
+           (is_miss || is_mispredicted || kind == KL_CYCLES || kind == KL_STALLS);
 }
 
-/* Code is translated anew, and looks at the kinds of which a thread has a threshold now. One of which none has any more is looked at until this is done again. */
+/* Code is translated anew, and looks at the kinds of which a thread has a threshold now. One of
+ * which none has any more is looked at until this is done again. */
 static void look_at_armed_kinds(void) {
     armed_count = 0;
     is_machine_armed = False;
@@ -68,7 +74,8 @@ Bool threshold_arms(core *c, UWord kind, UWord period) {
 
 /* -- close code -- */
 
-/* The scheduler runs it as code without redirection, which it keeps apart, and translates if it is not there. Libvex has room for so much of a block. */
+/* The scheduler runs it as code without redirection, which it keeps apart, and translates if it is
+ * not there. Libvex has room for so much of a block. */
 void close_code_is_next(void) {
     is_close = True;
     vex_control.guest_max_insns = 1 + MOST_LOOKS / (Int)armed_count;
@@ -101,7 +108,8 @@ static void goes_to_stub(core *c, UInt kind, Addr pc, Addr next) {
     set_current(running);
 }
 
-/* The first kind whose threshold is passed: of several at one place the others are passed when the thread is back there. */
+/* The first kind whose threshold is passed: of several at one place the others are passed when the
+ * thread is back there. */
 static UInt kind_passed(const core *c) {
     UInt i = 0;
     while (i + 1 < armed_count && c->left[armed_kinds[i]] > 0) i++;

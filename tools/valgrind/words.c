@@ -17,7 +17,8 @@ all_words words = {
     .has_counts = True, .process = "1", .kinds = ~0UL,
     .threads = ANY_THREAD, .stream = -1, .report = -1, .window = 65536, .most_amount = 255,
     .codes = recorded_codes,
-    .l1d = {512, 8, 64}, .l1i = {512, 8, 64}, .l2 = {4096, 4, 64}, .l3 = {131072, 16, 64}, .dtlb = {64, 4, 4096}, .itlb = {128, 8, 4096},
+    .l1d = {512, 8, 64}, .l1i = {512, 8, 64}, .l2 = {4096, 4, 64}, .l3 = {131072, 16, 64},
+    .dtlb = {64, 4, 4096}, .itlb = {128, 8, 4096},
     .mhz = 1000, .predictor_bits = 14, .costs = {8, 38, 200, 20, 16},
 };
 
@@ -41,12 +42,16 @@ static Bool read_shape(const HChar *text, shape *to) {
 
 /* `--NAME=LINES,WAYS,BYTES` or `--NAME=none`. */
 static Bool take_shape(const HChar *word) {
-    const struct { const HChar *name; shape *to; } shapes[] = {{"--l1d=", &words.l1d}, {"--l1i=", &words.l1i},   {"--l2=", &words.l2},
-                                                               {"--l3=", &words.l3},   {"--dtlb=", &words.dtlb}, {"--itlb=", &words.itlb}};
+    const struct {
+        const HChar *name;
+        shape *to;
+    } shapes[] = {{"--l1d=", &words.l1d}, {"--l1i=", &words.l1i},   {"--l2=", &words.l2},
+                  {"--l3=", &words.l3},   {"--dtlb=", &words.dtlb}, {"--itlb=", &words.itlb}};
     for (UInt i = 0; i < sizeof shapes / sizeof *shapes; i++) {
         SizeT length = VG_(strlen)(shapes[i].name);
         if (VG_(strncmp)(word, shapes[i].name, length)) continue;
-        if (!read_shape(word + length, shapes[i].to)) VG_(fmsg_bad_option)(word, "LINES,WAYS,BYTES or none\n");
+        if (!read_shape(word + length, shapes[i].to))
+            VG_(fmsg_bad_option)(word, "LINES,WAYS,BYTES or none\n");
         return True;
     }
     return False;
@@ -156,35 +161,47 @@ void words_end(void) {
 
 void words_print(void) {
     VG_(printf)("    --model=yes|no           caches, translation buffers and a predictor [no]\n"
-                "    --l1d=LINES,WAYS,BYTES   a part of that machine, or none; also --l1i, --l2, --l3, --dtlb, --itlb\n"
+                "    --l1d=LINES,WAYS,BYTES   a part of that machine, or none; also --l1i, --l2, "
+                "--l3, --dtlb, --itlb\n"
                 "    --predictor=N            2^N counters of branches, 0 for none [14]\n"
-                "    --costs=L2,L3,MEMORY,PAGE,BRANCH   cycles beside the one of each instruction [8,38,200,20,16]\n"
+                "    --costs=L2,L3,MEMORY,PAGE,BRANCH   cycles beside the one of each instruction "
+                "[8,38,200,20,16]\n"
                 "    --counts=yes|no          counts of all kinds, for requests [yes]\n"
-                "    --further=yes|no         also what only other tools count, and accesses as they see them [no]\n"
+                "    --further=yes|no         also what only other tools count, and accesses as "
+                "they see them [no]\n"
                 "    --check-blocks=yes|no    look whether each block is well formed [no]\n"
-                "    --rep=turns|lines        what an instruction with rep accesses: something in each turn, or each line once [turns]\n"
+                "    --rep=turns|lines        what an instruction with rep accesses: something in "
+                "each turn, or each line once [turns]\n"
                 "    --totals=yes|no          print the counts of each thread when it ends [no]\n"
                 "    --library=yes|no         count what the library does too, to measure it [no]\n"
                 "    --tape=yes|no            gather lines of a stream [no]\n"
                 "    --each=yes|no            a line for each occurrence [no]\n"
                 "    --window=N               instructions among which lines are gathered [65536]\n"
                 "    --most-amount=N          of a line, 0 for no limit [255]\n"
-                "    --codes=KIND:SSUU+SSUU,..  of the lines: a select code and a umask for each [those of examples/recorded.unit]\n"
-                "    --stream=DESCRIPTOR      where the lines of all threads go; without it requests fetch them\n"
-                "    --streams=FILE           where those of each thread go, with its number for %%t\n"
+                "    --codes=KIND:SSUU+SSUU,..  of the lines: a select code and a umask for each "
+                "[those of examples/recorded.unit]\n"
+                "    --stream=DESCRIPTOR      where the lines of all threads go; without it "
+                "requests fetch them\n"
+                "    --streams=FILE           where those of each thread go, with its number for "
+                "%%t\n"
                 "    --report=DESCRIPTOR      where totals and what ended the run are told\n"
                 "    --process-totals=FOLDER  where each process writes its counts when it ends\n"
                 "    --process=NAME           the process in that folder [1]\n"
-                "    --function=NAME          totals have calls of this one alone; may be repeated\n"
+                "    --function=NAME          totals have calls of this one alone; may be "
+                "repeated\n"
                 "    --profile=yes|no         also what functions and lines did [no]\n"
                 "    --kinds=0xMASK           the kinds that count, if no library asks [all]\n"
-                "    --mhz=N                  the rate of the clock, for threads that sleep [1000]\n"
-                "    --entry=0xADDRESS        the entry of the program's file: nothing before it is counted, nor changes the machine\n"
+                "    --mhz=N                  the rate of the clock, for threads that sleep "
+                "[1000]\n"
+                "    --entry=0xADDRESS        the entry of the program's file: nothing before it "
+                "is counted, nor changes the machine\n"
                 "    --from=0xADDRESS         the same for a function of the program's file\n"
                 "    --from-entry=yes|no      the same for the entry of each program [no]\n"
-                "    --keep-random=yes|no     the program has the system's random bytes, which are other ones each time [no]\n"
+                "    --keep-random=yes|no     the program has the system's random bytes, which "
+                "are other ones each time [no]\n"
                 "    --stopped=yes|no         threads count only when a request starts them [no]\n"
-                "    --threads=any|first|one  which threads count; with one a second thread ends the run [any]\n");
+                "    --threads=any|first|one  which threads count; with one a second thread ends "
+                "the run [any]\n");
 }
 
 void words_print_kinds(void) {

@@ -6,8 +6,9 @@
 #include "kinds.h"
 #include "machine.h"
 
-/* Cycles beside the one of each instruction: of an access that the second level, the third or the memory serves, of a page that is not in its buffer, and of a
- * branch that was predicted wrongly. */
+/* Cycles beside the one of each instruction: of an access that the second level, the third or the
+ * memory serves, of a page that is not in its buffer, and of a branch that was predicted
+ * wrongly. */
 enum { SERVED_BY_L2, SERVED_BY_L3, SERVED_BY_MEMORY, PAGE_MISSED, BRANCH_ERRED, COSTS };
 #define MOST_COST 10000
 
@@ -20,15 +21,19 @@ typedef struct {
     Bool has_further; /* kinds that only other tools count, and accesses as they see them */
     Bool has_tape;    /* lines of a stream */
     Bool is_each;     /* a line for each occurrence */
-    Bool has_rep_lines; /* an instruction that repeats itself accesses each line once, and not in each turn */
+    /* An instruction that repeats itself accesses each line once, and not in each turn. */
+    Bool has_rep_lines;
     Bool is_stopped;  /* until START */
-    Bool keeps_random; /* the program has the system's random bytes, and not those of its environment's padding */
+    /* The program has the system's random bytes, and not those of its environment's padding. */
+    Bool keeps_random;
     Bool shows_totals;
     Bool counts_library; /* as if it were the program's own, to measure it */
-    enum { ANY_THREAD, FIRST_THREAD, ONE_THREAD } threads; /* ONE_THREAD: a second one ends the run */
+    /* ONE_THREAD: a second one ends the run */
+    enum { ANY_THREAD, FIRST_THREAD, ONE_THREAD } threads;
     Int stream, report;     /* descriptors, or -1 */
     const HChar *streams;   /* a file for each thread, whose number stands for %t */
-    Addr entry, from;       /* addresses in the program's file: its entry, and where counting begins, or 0 */
+    /* addresses in the program's file: its entry, and where counting begins, or 0 */
+    Addr entry, from;
     Bool from_entry;        /* counting begins at the entry of each program */
     const HChar *totals, *process; /* the folder of totals, and the process (totals.h) */
     ULong kinds;            /* a bit for each that counts */
