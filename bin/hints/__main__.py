@@ -1,8 +1,10 @@
-"""Hints on what a tool answered: hints NAME STATUS TOOL WORD.., with what the program wrote on standard error as standard input.
+"""Hints on what a tool answered: hints NAME STATUS TOOL WORD.., with what the program wrote on
+standard error as standard input.
 
-Prints lines `hint: ..` for a person who wonders what to do. It reads the files that the words name, as far as they are regular files, and never
-runs the program. The program is proved and these hints are not: if they are wrong its own lines hold. The status is 10 if a native event counts 0, since no line
-of the streams counts for it.
+Prints lines `hint: ..` for a person who wonders what to do. It reads the files that the words name,
+as far as they are regular files, and never runs the program. The program is proved and these hints
+are not: if they are wrong its own lines hold. The status is 10 if a native event counts 0, since no
+line of the streams counts for it.
 """
 
 from __future__ import annotations
@@ -25,7 +27,8 @@ def tell(lines: list[str]) -> None:
             sys.stdout.buffer.write(f"hint: {plain(line)}\n".encode())
         sys.stdout.buffer.flush()
     except OSError:
-        os.dup2(os.open(os.devnull, os.O_WRONLY), 1)  # for what Python would try once more at its end
+        # for what Python would try once more at its end
+        os.dup2(os.open(os.devnull, os.O_WRONLY), 1)
 
 
 def main() -> None:

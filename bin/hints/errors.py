@@ -1,4 +1,5 @@
-"""Hints on what the program wrote on standard error: the line of the file, and what is wrong with it."""
+"""Hints on what the program wrote on standard error: the line of the file, and what is wrong with
+it."""
 
 from __future__ import annotations
 
@@ -21,7 +22,10 @@ LINE = re.compile(r"papi: (.*): line ([0-9]+): (.*)")
 STREAM = re.compile(rf"papi: stream ([0-9]+): line ([0-9]+): ({one_of('stream')})")
 ROW_FAULTS = {"-U": unit_fault, "-P": preset_fault, "-M": map_fault}
 MARK = "\ufeff"
-OF_MARK = "{} begins with a byte order mark (the bytes EF BB BF), which this file may not have: save it as UTF-8 without one"
+OF_MARK = (
+    "{} begins with a byte order mark (the bytes EF BB BF), which this file may not have: save it "
+    "as UTF-8 without one"
+)
 MOST_STREAMS = 3  # of which faults are shown
 
 
@@ -57,8 +61,12 @@ def _row_hints(read: Words, name: str, number: int, cause: str) -> list[str]:
     if not 1 <= number <= len(rows):
         return []
     row = rows[number - 1]
-    # The same file may have been given for several tables. The first of them whose form the row does not have is at fault.
-    faults = (ROW_FAULTS[option](rows, number - 1, cause) for option in ROW_FAULTS if read.options.get(option) == name)
+    # The same file may have been given for several tables. The first of them whose form the row
+    # does not have is at fault.
+    faults = (
+        ROW_FAULTS[option](rows, number - 1, cause) for option in ROW_FAULTS
+        if read.options.get(option) == name
+    )
     fault = next(filter(None, faults), "")
     return [_shown_line(name, row.line, row.text)] + [fault] * bool(fault)
 
@@ -69,12 +77,20 @@ def _line_hints(read: Words, name: str, number: int, cause: str) -> list[str]:
     if text.startswith(MARK):
         return [OF_MARK.format(cut(name))]
     if is_of_stream(text):
-        return [_shown_line(name, number, text), "this is a line of a stream: the script stands before the streams"]
+        return [
+            _shown_line(name, number, text),
+            "this is a line of a stream: the script stands before the streams",
+        ]
     if cause in (WRONG_REGION, NOT_ENDED):
         fault = region_fault(lines, number)
     else:
-        fault = line_fault(lines[number - 1], cause, REGION_CALLS if "--events" in read.options else CALLS)
-    there = [_shown_line(name, number, lines[number - 1])] if number <= len(lines) and lines[number - 1] else []
+        fault = line_fault(
+            lines[number - 1], cause, REGION_CALLS if "--events" in read.options else CALLS
+        )
+    there = (
+        [_shown_line(name, number, lines[number - 1])] if number <= len(lines) and lines[number - 1]
+        else []
+    )
     return there + [fault] * bool(fault)
 
 
@@ -84,7 +100,10 @@ def _stream_hints(read: Words, thread: int, number: int, cause: str) -> list[str
     if text.startswith(MARK):
         return [OF_MARK.format(cut(name))]
     if is_of_script(text):
-        return [_shown_line(name, number, text), "this is a call of a script, which stands before the streams"]
+        return [
+            _shown_line(name, number, text),
+            "this is a call of a script, which stands before the streams",
+        ]
     fault = stream_fault(text, has_stamps, cause)
     return [_shown_line(name, number, text)] + [fault] * bool(fault)
 
@@ -94,9 +113,15 @@ def _missing_file_hints(name: str) -> list[str]:
     folder = os.path.dirname(name)
     place = os.path.abspath(folder)
     if not os.path.isdir(place):
-        return [f"there is no folder {shown(folder)}" + ("" if os.path.isabs(name) else f" in {cut(os.getcwd())}")]
+        return [
+            f"there is no folder {shown(folder)}"
+            + ("" if os.path.isabs(name) else f" in {cut(os.getcwd())}")
+        ]
     try:
         names = sorted(os.listdir(place))
     except OSError:
         names = []
-    return [f"{cut(place)} has no file {shown(os.path.basename(name))}{near(os.path.basename(name), names)}"]
+    return [
+        f"{cut(place)} has no file "
+        f"{shown(os.path.basename(name))}{near(os.path.basename(name), names)}"
+    ]

@@ -16,7 +16,8 @@ OF_PROGRAM = "papi: "
 
 
 def hints_on(name: str, status: int, tool: str, words: list[str], lines: list[str]) -> list[str]:
-    """The hints on a call that ended with this status. The lines are those of standard error, and replies of standard output. NAME is what the tool is called by."""
+    """The hints on a call that ended with this status. The lines are those of standard error, and
+    replies of standard output. NAME is what the tool is called by."""
     form = Form.of(tool)
     if form is None:
         return [f"there is no tool {shown(tool)}{near_tools(tool)}", "papi --help lists the tools"]

@@ -1,4 +1,5 @@
-"""Hints on the replies of papi_run that refuse a call: its line, PAPI's sentence, and the rule by which it is refused."""
+"""Hints on the replies of papi_run that refuse a call: its line, PAPI's sentence, and the rule by
+which it is refused."""
 
 from __future__ import annotations
 
@@ -33,7 +34,10 @@ def tables_of(read: Words) -> Tables:
     """The tables of a call, none where they can't be read again."""
     try:
         unit = read_unit(read.options["-U"])
-        return Tables(unit, read_presets(read.options["-P"], read.options["-C"]) if "-P" in read.options else None)
+        return Tables(
+            unit,
+            read_presets(read.options["-P"], read.options["-C"]) if "-P" in read.options else None,
+        )
     except (Unread, OSError, KeyError):
         return Tables(None, None)
 
@@ -43,7 +47,10 @@ def refusal_hints(read: Words, lines: Sequence[str]) -> list[str]:
     if not refusals:
         return []
     tables, taken = tables_of(read), _taken(read, {refusal.call.line for refusal in refusals})
-    told = [_told(refusal, after(call for call in taken if call.line < refusal.call.line), tables) for refusal in refusals[:MOST_REFUSALS]]
+    told = [
+        _told(refusal, after(call for call in taken if call.line < refusal.call.line), tables)
+        for refusal in refusals[:MOST_REFUSALS]
+    ]
     left = len(refusals) - MOST_REFUSALS
     more = [f"{left:,} more {'call is' if left == 1 else 'calls are'} refused"] if left > 0 else []
     fault = cpu_fault(tables.presets) if tables.presets is not None else ""
@@ -51,14 +58,22 @@ def refusal_hints(read: Words, lines: Sequence[str]) -> list[str]:
 
 
 def _refusals(read: Words, lines: Sequence[str]) -> list[Refusal]:
-    """The refusals among the replies, with their calls as the script has them; with the call's name alone if the script can't be read again."""
-    replies = [found for line in lines if (found := REPLY.fullmatch(line)) and found[4] != NO_REFUSAL]
+    """The refusals among the replies, with their calls as the script has them; with the call's name
+    alone if the script can't be read again."""
+    replies = [
+        found for line in lines if (found := REPLY.fullmatch(line)) and found[4] != NO_REFUSAL
+    ]
     try:
-        calls = {call.line: call for call in calls_of(read_lines(read.others[0]))} if replies else {}
+        calls = (
+            {call.line: call for call in calls_of(read_lines(read.others[0]))} if replies else {}
+        )
     except (Unread, OSError, IndexError):
         calls = {}
     return [
-        Refusal(calls.get(int(found[1]), Call(int(found[1]), int(found[2]), found[3], ())), found[4], tuple(found[5].split()))
+        Refusal(
+            calls.get(int(found[1]), Call(int(found[1]), int(found[2]), found[3], ())), found[4],
+            tuple(found[5].split()),
+        )
         for found in replies
     ]
 
@@ -73,7 +88,10 @@ def _taken(read: Words, refused: set[int]) -> list[Call]:
 
 def _told(refusal: Refusal, sets: Sets, tables: Tables) -> str:
     call = refusal.call
-    parts = [f"line {call.line}", cut(" ".join((call.name, *call.arguments))), SENTENCES.get(refusal.code, refusal.code), _why(refusal, sets, tables)]
+    parts = [
+        f"line {call.line}", cut(" ".join((call.name, *call.arguments))),
+        SENTENCES.get(refusal.code, refusal.code), _why(refusal, sets, tables),
+    ]
     return ": ".join(part for part in parts if part)
 
 
@@ -82,7 +100,10 @@ def _why(refusal: Refusal, sets: Sets, tables: Tables) -> str:
     if code == CONFLICT and "/" in results:
         place = results.index("/")
         return why_not(place, results[place + 1 :])
-    if code in OF_NAMES and "EVENT" in CALLS.get(call.name, ()) and call.arguments and tables.unit is not None:
+    if (
+        code in OF_NAMES and "EVENT" in CALLS.get(call.name, ()) and call.arguments
+        and tables.unit is not None
+    ):
         event = call.arguments[CALLS[call.name].index("EVENT")]
         if fault := name_fault(tables.presets, tables.unit, event):
             return fault

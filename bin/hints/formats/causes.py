@@ -1,4 +1,5 @@
-"""The causes of faults, as the program writes them on the line that names a row or a line of a file (docs/FORMATS.md). A test compares them with what is proved."""
+"""The causes of faults, as the program writes them on the line that names a row or a line of a file
+(docs/FORMATS.md). A test compares them with what is proved."""
 
 from __future__ import annotations
 

@@ -1,5 +1,6 @@
-"""The files that words, tables, programs and folders name: regular ones alone, as far as they are not too large. The lines of scripts and streams and the rows of
-tables, with their numbers (docs/FORMATS.md)."""
+"""The files that words, tables, programs and folders name: regular ones alone, as far as they are
+not too large. The lines of scripts and streams and the rows of tables, with their numbers
+(docs/FORMATS.md)."""
 
 from __future__ import annotations
 

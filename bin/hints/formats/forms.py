@@ -1,4 +1,5 @@
-"""The words that a tool takes, as the first line of its usage text says, with what the lines below it say of each word."""
+"""The words that a tool takes, as the first line of its usage text says, with what the lines below
+it say of each word."""
 
 from __future__ import annotations
 
@@ -50,7 +51,10 @@ class Form:
         if not re.fullmatch(r"papi_\w+", tool) or not path.is_file():
             return None
         head, *lines = path.read_text(encoding="utf-8").splitlines()
-        meanings = dict(re.split(r"  +", line.strip(), maxsplit=1) for line in lines if re.match(r"  \S.*\S  +\S", line))
+        meanings = dict(
+            re.split(r"  +", line.strip(), maxsplit=1) for line in lines
+            if re.match(r"  \S.*\S  +\S", line)
+        )
         options: dict[str, Option] = {}
         places = []
         for part in re.findall(r"\[[^\]]*\]|-\S+(?: [A-Z]+)?|\S+", head.partition(tool)[2]):
@@ -66,7 +70,10 @@ def _options(text: str, is_needed: bool, meanings: dict[str, str]) -> dict[str, 
     found = re.findall(r"(-\S+)(?: ([A-Z]+))?", text)
     partners = {found[0][0]: found[1][0], found[1][0]: found[0][0]} if len(found) == 2 else {}
     return {
-        word: Option(word, value, is_needed, partners.get(word, ""), meanings.get(f"{word} {value}".rstrip(), ""))
+        word: Option(
+            word, value, is_needed, partners.get(word, ""),
+            meanings.get(f"{word} {value}".rstrip(), ""),
+        )
         for word, value in found
     }
 

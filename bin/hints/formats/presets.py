@@ -1,4 +1,5 @@
-"""The presets and user events of a processor, and why one of them is not available (docs/FORMATS.md, The preset file)."""
+"""The presets and user events of a processor, and why one of them is not available
+(docs/FORMATS.md, The preset file)."""
 
 from __future__ import annotations
 
@@ -10,9 +11,12 @@ from .units import Unit, fault_of
 
 # tools/make_presets: begin
 SYMBOLS = (
-    "PAPI_L1_DCM", "PAPI_L1_ICM", "PAPI_L2_DCM", "PAPI_L2_ICM", "PAPI_L1_TCM", "PAPI_L2_TCM", "PAPI_L3_TCM", "PAPI_TLB_DM", "PAPI_TLB_IM",
-    "PAPI_L1_LDM", "PAPI_L1_STM", "PAPI_BR_UCN", "PAPI_BR_CN", "PAPI_BR_TKN", "PAPI_BR_NTK", "PAPI_BR_MSP", "PAPI_BR_PRC", "PAPI_TOT_INS",
-    "PAPI_LD_INS", "PAPI_SR_INS", "PAPI_BR_INS", "PAPI_RES_STL", "PAPI_TOT_CYC", "PAPI_LST_INS", "PAPI_FP_OPS", "PAPI_REF_CYC",
+    "PAPI_L1_DCM", "PAPI_L1_ICM", "PAPI_L2_DCM", "PAPI_L2_ICM", "PAPI_L1_TCM", "PAPI_L2_TCM",
+    "PAPI_L3_TCM", "PAPI_TLB_DM", "PAPI_TLB_IM",
+    "PAPI_L1_LDM", "PAPI_L1_STM", "PAPI_BR_UCN", "PAPI_BR_CN", "PAPI_BR_TKN", "PAPI_BR_NTK",
+    "PAPI_BR_MSP", "PAPI_BR_PRC", "PAPI_TOT_INS",
+    "PAPI_LD_INS", "PAPI_SR_INS", "PAPI_BR_INS", "PAPI_RES_STL", "PAPI_TOT_CYC", "PAPI_LST_INS",
+    "PAPI_FP_OPS", "PAPI_REF_CYC",
 )
 # tools/make_presets: end
 FORMULAS = ("DERIVED_POSTFIX", "DERIVED_INFIX")
@@ -38,7 +42,8 @@ class Presets:
     cpu: str
     cpus: list[str] = field(default_factory=list)
     entries: dict[str, Entry] = field(default_factory=dict)
-    passed_over: list[str] = field(default_factory=list)  # presets of rows that the program does not know
+    # presets of rows that the program does not know
+    passed_over: list[str] = field(default_factory=list)
 
     def user_events(self) -> list[str]:
         return [name for name in self.entries if not name.startswith(FRONT)]
@@ -67,7 +72,8 @@ def read_presets(name: str, cpu: str) -> Presets:
 
 
 def entry_of(fields: list[str]) -> Entry:
-    """The fields of a row after its kind: the name, the type, a formula if the type has one, and the native events."""
+    """The fields of a row after its kind: the name, the type, a formula if the type has one, and
+    the native events."""
     kind = fields[1] if len(fields) > 1 else ""
     rest = fields[2:]
     formula = rest.pop(0) if kind in FORMULAS and rest else ""
@@ -97,16 +103,22 @@ def why_unavailable(presets: Presets, unit: Unit, name: str) -> str:
     if not entry.natives:
         return f"{name} has no native events"
     if entry.kind == "NOT_DERIVED" and len(entry.natives) > 1:
-        return f"{name} is NOT_DERIVED and has {len(entry.natives)} native events, where one is wanted"
+        return (
+            f"{name} is NOT_DERIVED and has {len(entry.natives)} native events, where one is wanted"
+        )
     for native in entry.natives:
         if fault := fault_of(unit, native):
             return f"{name} is not available: {fault}"
     components = {event.component for native in entry.natives if (event := unit.find(native))}
-    return f"{name} has native events of several components: {', '.join(sorted(components))}" if len(components) > 1 else ""
+    return (
+        f"{name} has native events of several components: {', '.join(sorted(components))}"
+        if len(components) > 1 else ""
+    )
 
 
 def instead_of(presets: Presets | None, name: str) -> str:
-    """What counts as a preset that the program does not know, if the preset file has something of it."""
+    """What counts as a preset that the program does not know, if the preset file has something of
+    it."""
     event = name.removeprefix(FRONT)
     if presets is not None and event in presets.entries:
         return f"; the preset file has the user event {event}"
@@ -116,13 +128,17 @@ def instead_of(presets: Presets | None, name: str) -> str:
 
 
 def name_fault(presets: Presets | None, unit: Unit, name: str) -> str:
-    """Why a text of a script or a word names no event that can be counted, or nothing if it names one."""
+    """Why a text of a script or a word names no event that can be counted, or nothing if it names
+    one."""
     if presets is not None and name in presets.entries:
         return why_unavailable(presets, unit, name)
     if not name.startswith(FRONT):
         return fault_of(unit, name)
     if name not in SYMBOLS:
-        return f"{name} is none of the {len(SYMBOLS)} presets that the program knows{instead_of(presets, name) or near(name, SYMBOLS)}"
+        return (
+            f"{name} is none of the {len(SYMBOLS)} presets that the program "
+            f"knows{instead_of(presets, name) or near(name, SYMBOLS)}"
+        )
     if presets is None:
         return f"{name} is a preset: -P PRESETS and -C CPU name those of a processor"
     return why_unavailable(presets, unit, name)

@@ -25,11 +25,14 @@ def is_of_stream(text: str) -> bool:
     """Whether a line has the form of a stream's, with a stamp or without one."""
     fields = text.split(" ")
     form = (*FIELDS, STAMP)
-    return len(fields) in (len(FIELDS), len(form)) and all(re.fullmatch(wanted, field) for field, (_, wanted, _) in zip(fields, form))
+    return len(fields) in (len(FIELDS), len(form)) and all(
+        re.fullmatch(wanted, field) for field, (_, wanted, _) in zip(fields, form)
+    )
 
 
 def stream_fault(text: str, has_stamps: bool, cause: str) -> str:
-    """What is wrong with a line whose cause the program says, or nothing if the cause says it all."""
+    """What is wrong with a line whose cause the program says, or nothing if the cause says it
+    all."""
     form = (*FIELDS, STAMP) if has_stamps else FIELDS
     fields = text.split(" ")
     if cause == LONG_LINE:
@@ -38,7 +41,9 @@ def stream_fault(text: str, has_stamps: bool, cause: str) -> str:
         return _number_fault(text, fields, form)
     if cause == BAD_FIELD:
         for number, (field, (what, wanted_form, wanted)) in enumerate(zip(fields, form), start=1):
-            if not re.fullmatch(wanted_form, field) or (number > len(FIELDS) and int(field) > LAST_STAMP):
+            if not re.fullmatch(wanted_form, field) or (
+                number > len(FIELDS) and int(field) > LAST_STAMP
+            ):
                 return f"field {number}, {what}, is {shown(field)}, and {wanted} is wanted"
     return ""
 
@@ -53,6 +58,15 @@ def _number_fault(text: str, fields: list[str], form: tuple[tuple[str, str, str]
             return "the line has spaces alone; an empty line has none"
         if empty == 0:
             return "a space stands before field 1"
-        return f"a space stands after field {empty}, the last one" if not any(fields[empty:]) else f"two spaces stand after field {empty}"
-    stamps = "; a stream with stamps begins with the line: version 2" if len(fields) == len(form) + 1 == len(FIELDS) + 1 else ""
-    return f"it has {len(fields)} fields, and {len(form)} are wanted: COMP SELECT UMASK MODE AMOUNT PC{' STAMP' if len(form) > len(FIELDS) else ''}{stamps}"
+        return (
+            f"a space stands after field {empty}, the last one" if not any(fields[empty:])
+            else f"two spaces stand after field {empty}"
+        )
+    stamps = (
+        "; a stream with stamps begins with the line: version 2"
+        if len(fields) == len(form) + 1 == len(FIELDS) + 1 else ""
+    )
+    return (
+        f"it has {len(fields)} fields, and {len(form)} are wanted: COMP SELECT UMASK MODE AMOUNT "
+        f"PC{' STAMP' if len(form) > len(FIELDS) else ''}{stamps}"
+    )

@@ -22,7 +22,8 @@ def cut(text: str) -> str:
 
 
 def plain(text: str) -> str:
-    """A text on one line. Other characters than printable ones, and bytes that are not UTF-8, are written as in a program of Python."""
+    """A text on one line. Other characters than printable ones, and bytes that are not UTF-8, are
+    written as in a program of Python."""
     return "".join(letter if letter.isprintable() else _escaped(letter) for letter in text)
 
 
@@ -42,7 +43,10 @@ def near(text: str, names: Iterable[str]) -> str:
     for name in names:
         by_case.setdefault(name.upper(), name)
     found = _nearest(text.upper(), by_case)
-    return f" (near: {', '.join(by_case[name] for name in found)})" if found else listed(by_case.values())
+    return (
+        f" (near: {', '.join(by_case[name] for name in found)})" if found
+        else listed(by_case.values())
+    )
 
 
 def _nearest(text: str, names: Iterable[str]) -> list[str]:

@@ -1,4 +1,5 @@
-"""The events of a unit file, and why a text names none of them (docs/FORMATS.md, Names of events)."""
+"""The events of a unit file, and why a text names none of them (docs/FORMATS.md, Names of
+events)."""
 
 from __future__ import annotations
 
@@ -50,7 +51,9 @@ class Unit:
         """The first event that a text's name agrees with, whatever its attributes are."""
         component, pmu, name, _ = parts_of(text)
         for event in self._by_name.get(name.upper(), []):
-            if (component is None or _same(event.component, component)) and (pmu is None or _same(event.pmu, pmu)):
+            if (component is None or _same(event.component, component)) and (
+                pmu is None or _same(event.pmu, pmu)
+            ):
                 return event
         return None
 
@@ -71,7 +74,9 @@ def read_unit(name: str) -> Unit:
         elif kind == "EVENT":
             events.append(Event(component, pmu, fields[0], [], number, int(fields[1], 16)))
         elif kind == "UMASK":
-            events[-1].umasks.append(Umask(fields[0], "d" in fields[2], "n" in fields[2], int(fields[1], 16)))
+            events[-1].umasks.append(
+                Umask(fields[0], "d" in fields[2], "n" in fields[2], int(fields[1], 16))
+            )
         elif kind == "UMASK_MODIFIERS":
             events[-1].umasks[-1] = replace(events[-1].umasks[-1], amount=int(fields[1]))
     return Unit(events, widths)
@@ -99,30 +104,45 @@ def fault_of(unit: Unit, text: str) -> str:
         if fault:
             return fault
     if event.umasks and not chosen and not any(umask.is_default for umask in event.umasks):
-        return f"{event.full_name()} needs a umask{near('', (f'{event.full_name()}:{umask.name}' for umask in event.umasks))}"
+        return (
+            f"{event.full_name()} needs a "
+            f"umask{near('', (f'{event.full_name()}:{umask.name}' for umask in event.umasks))}"
+        )
     return ""
 
 
 def _unknown(unit: Unit, text: str) -> str:
     component, pmu, name, _ = parts_of(text)
-    if component is not None and not any(_same(event.component, component) for event in unit.events):
-        return f"the unit has no component {shown(component)}{near(component, (event.component for event in unit.events))}"
+    if component is not None and not any(
+        _same(event.component, component) for event in unit.events
+    ):
+        return (
+            "the unit has no component "
+            f"{shown(component)}{near(component, (event.component for event in unit.events))}"
+        )
     if pmu is not None and not any(_same(event.pmu, pmu) for event in unit.events):
         return f"the unit has no pmu {shown(pmu)}{near(pmu, (event.pmu for event in unit.events))}"
     if CODE.fullmatch(text):
-        return f"{shown(text)} is a code, and a call takes the event's name: papi_encode prints the codes of names, and the call `name CODE` replies the name of one"
+        return (
+            f"{shown(text)} is a code, and a call takes the event's name: papi_encode prints the "
+            "codes of names, and the call `name CODE` replies the name of one"
+        )
     names = (event.name for event in unit.events if pmu is None or _same(event.pmu, pmu))
     return f"the unit has no event {shown(text)}{near(name, names)}"
 
 
 def _attribute_fault(event: Event, attribute: str, chosen: list[Umask], taken: set[str]) -> str:
-    """What is wrong with one attribute. A good umask is added to the chosen ones, and each name to those taken."""
+    """What is wrong with one attribute. A good umask is added to the chosen ones, and each name to
+    those taken."""
     name, equals, value = attribute.partition("=")
     umask = next((umask for umask in event.umasks if _same(umask.name, name)), None)
     if umask is None and name.lower() not in MODIFIERS:
         umasks = [umask.name for umask in event.umasks]
         modifiers = "u, k, e, i and c=N are modifiers"
-        return f"{event.full_name()} has no umask {shown(attribute)}{near(attribute, umasks)}; {modifiers}"
+        return (
+            f"{event.full_name()} has no umask {shown(attribute)}{near(attribute, umasks)}; "
+            f"{modifiers}"
+        )
     if name.lower() in taken:
         return f"{shown(name)} stands twice in the name"
     taken.add(name.lower())
@@ -131,7 +151,10 @@ def _attribute_fault(event: Event, attribute: str, chosen: list[Umask], taken: s
     if equals:
         return f"the umask {umask.name} takes no value"
     if chosen and (umask.stands_alone or any(other.stands_alone for other in chosen)):
-        return f"the umasks {chosen[-1].name} and {umask.name} of {event.full_name()} cannot be combined"
+        return (
+            f"the umasks {chosen[-1].name} and {umask.name} of {event.full_name()} cannot be "
+            "combined"
+        )
     chosen.append(umask)
     return ""
 
@@ -139,8 +162,13 @@ def _attribute_fault(event: Event, attribute: str, chosen: list[Umask], taken: s
 def _modifier_fault(name: str, equals: str, value: str) -> str:
     if name == "c":
         good = NUMBER.fullmatch(value) and int(value, 0) <= 255
-        return "" if good else "c takes a number from 0 to 255, without leading zeros: c=2 or c=0x10"
-    return "" if not equals or SWITCH.fullmatch(value) else f"{name} takes no value, or one of 0 1 n y f t"
+        return (
+            "" if good else "c takes a number from 0 to 255, without leading zeros: c=2 or c=0x10"
+        )
+    return (
+        "" if not equals or SWITCH.fullmatch(value)
+        else f"{name} takes no value, or one of 0 1 n y f t"
+    )
 
 
 def _same(one: str, other: str) -> bool:

@@ -15,7 +15,8 @@ EVENTS = re.compile(r"[!-~]+")
 
 @dataclass
 class Words:
-    """The values of the options, those that lack theirs, the words that are none, and what could not be split."""
+    """The values of the options, those that lack theirs, the words that are none, and what could
+    not be split."""
 
     options: dict[str, str] = field(default_factory=dict)
     lacking: set[str] = field(default_factory=set)
@@ -56,7 +57,9 @@ class Words:
             self.options[name] = ""
             self._take_option(form, f"-{attached}", rest)
 
-    def _take_value(self, form: Form, option: Option, attached: str | None, rest: list[str]) -> None:
+    def _take_value(
+        self, form: Form, option: Option, attached: str | None, rest: list[str]
+    ) -> None:
         if attached is not None:
             self.options[option.word] = attached
         elif rest and (rest[0] == "-" or not rest[0].startswith("-")):
@@ -64,14 +67,22 @@ class Words:
         else:
             self.lacking.add(option.word)
             is_value = rest and _name_and_value(rest[0])[0] not in form.options
-            self.faults.append(_dashed_value(option, rest.pop(0)) if is_value else f"{option.word} has no {option.value}")
+            self.faults.append(
+                _dashed_value(option, rest.pop(0)) if is_value
+                else f"{option.word} has no {option.value}"
+            )
 
 
 def _unknown_option(form: Form, name: str) -> str:
     if name == "--help":
         return "--help prints the usage if it stands first"
-    meant = next((option for option in form.options.values() if option.value == name.lstrip("-").upper()), None)
-    return f"{form.tool} has no option {shown(name)}" + (f" (near: {meant.text()})" if meant else near(name, form.options))
+    meant = next(
+        (option for option in form.options.values() if option.value == name.lstrip("-").upper()),
+        None,
+    )
+    return f"{form.tool} has no option {shown(name)}" + (
+        f" (near: {meant.text()})" if meant else near(name, form.options)
+    )
 
 
 def _dashed_value(option: Option, value: str) -> str:
@@ -79,7 +90,9 @@ def _dashed_value(option: Option, value: str) -> str:
     if _is_number(option.value):
         return _number_faults(option.word, option.value, option.meaning, value)[0]
     attached = f"{option.word}={value}" if option.word.startswith("--") else f"{option.word}{value}"
-    return f"{option.word} has no {option.value}: a value that begins with - is attached, {attached}"
+    return (
+        f"{option.word} has no {option.value}: a value that begins with - is attached, {attached}"
+    )
 
 
 def _is_number(name: str) -> bool:
@@ -107,8 +120,14 @@ def word_faults(form: Form, read: Words) -> list[str]:
 
 def _too_large(form: Form, read: Words) -> list[str]:
     """If nothing else is wrong: the numbers whose meaning names no range."""
-    numbers = [form.options[word] for word in read.options if _is_number(form.options[word].value) and not limits_of(form.options[word].meaning)]
-    return [f"{option.word} {shown(read.options[option.word])}: the number is too large" for option in numbers]
+    numbers = [
+        form.options[word] for word in read.options
+        if _is_number(form.options[word].value) and not limits_of(form.options[word].meaning)
+    ]
+    return [
+        f"{option.word} {shown(read.options[option.word])}: the number is too large"
+        for option in numbers
+    ]
 
 
 def _option_faults(form: Form, option: Option, read: Words) -> list[str]:
@@ -119,12 +138,17 @@ def _option_faults(form: Form, option: Option, read: Words) -> list[str]:
         if option.is_needed:
             return [f"{option.text()} is missing: {_short(option.meaning)}"]
         if option.partner in read.options or option.partner in read.lacking:
-            return [f"{option.text()} is missing: {form.options[option.partner].text()} goes with it"]
+            return [
+                f"{option.text()} is missing: {form.options[option.partner].text()} goes with it"
+            ]
         return []
     if not option.value:
         return []
     if option.word == "-C" and not CPU.fullmatch(value):
-        return [f"-C {shown(value)}: a processor's name has 1 to 64 printable characters, no comma, and no space at its ends"]
+        return [
+            f"-C {shown(value)}: a processor's name has 1 to 64 printable characters, no comma, "
+            "and no space at its ends"
+        ]
     if option.word == "--events":
         return _event_faults(value)
     return _number_faults(option.word, option.value, option.meaning, value)
@@ -144,7 +168,9 @@ def _number_faults(word: str, name: str, meaning: str, value: str) -> list[str]:
     limits = limits_of(meaning)
     if not _is_number(name):
         return []
-    if re.fullmatch(r"\+?0*[0-9]{1,9}", value) and (limits is None or limits[0] <= int(value) <= limits[1]):
+    if re.fullmatch(r"\+?0*[0-9]{1,9}", value) and (
+        limits is None or limits[0] <= int(value) <= limits[1]
+    ):
         return []
     wanted = f"a number from {limits[0]} to {limits[1]}" if limits else "a number"
     return [f"{word} {shown(value)}: {wanted} is wanted"]
@@ -156,7 +182,9 @@ def _place_faults(form: Form, others: list[str]) -> list[str]:
     for place in form.places:
         taken, rest = rest[: place.most], rest[place.most :]
         if len(taken) < place.least:
-            faults.append(f"{place.name} is missing" + (f": {_short(place.meaning)}" if place.meaning else ""))
+            faults.append(
+                f"{place.name} is missing" + (f": {_short(place.meaning)}" if place.meaning else "")
+            )
         faults += [fault for word in taken for fault in _word_faults(place, word)]
     if rest:
         faults.append(f"{shown(rest[0])} is one word too many")
