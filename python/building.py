@@ -15,7 +15,8 @@ from typing import Mapping, Optional
 
 ROOT = Path(__file__).resolve().parent.parent
 SUMMARY = "Event sets of PAPI over modelled counters"
-MADE = (2026, 1, 1, 0, 0, 0)  # the time of each file in the wheel, so that the same files give the same wheel
+# the time of each file in the wheel, so that the same files give the same wheel
+MADE = (2026, 1, 1, 0, 0, 0)
 MADE_SECONDS = 1_767_225_600  # the same for an archive
 ENTRY_POINTS = "[pytest11]\nkistalub = kistalub.pytest_plugin\n"  # pytest finds its plugins by this
 LIBRARY = "libpapi.so.7.0"  # beside the module in a wheel that was asked to have it
@@ -30,9 +31,15 @@ def version() -> str:
 
 def metadata() -> str:
     """The file METADATA (core metadata 2.1)."""
-    fields = ("Metadata-Version: 2.1", "Name: kistalub", f"Version: {version()}", f"Summary: {SUMMARY}", "License: BSD-3-Clause", "Requires-Python: >=3.9")
+    fields = (
+        "Metadata-Version: 2.1", "Name: kistalub", f"Version: {version()}", f"Summary: {SUMMARY}",
+        "License: BSD-3-Clause", "Requires-Python: >=3.9",
+    )
     text_kind = "Description-Content-Type: text/markdown"
-    return "\n".join([*fields, text_kind]) + "\n\n" + (ROOT / "docs/PYTHON.md").read_text(encoding="utf-8")
+    return (
+        "\n".join([*fields, text_kind]) + "\n\n"
+        + (ROOT / "docs/PYTHON.md").read_text(encoding="utf-8")
+    )
 
 
 def info_folder() -> str:

@@ -8,8 +8,8 @@
             kistalub.go(3)
             print(events.stop())
 
-Counts are what a stream says, so they are the same in each run. A refused call raises an exception that is named after PAPI's code, and all of them are
-`PapiError`. docs/PYTHON.md shows more.
+Counts are what a stream says, so they are the same in each run. A refused call raises an exception
+that is named after PAPI's code, and all of them are `PapiError`. docs/PYTHON.md shows more.
 """
 
 from __future__ import annotations

@@ -1,4 +1,5 @@
-"""The shared library: where it is, the types of its functions (papi.h, kistalub.h), and how one is called."""
+"""The shared library: where it is, the types of its functions (papi.h, kistalub.h), and how one is
+called."""
 
 from __future__ import annotations
 
@@ -15,7 +16,10 @@ from .errors import error_of
 NAME = "libpapi.so.7.0"
 PREFIXES = (sys.prefix, "/usr/local", "/usr")  # what bin/install was given
 VARIABLE = "KISTALUB_LIBRARY"
-REMEDY = f"bin/install PREFIX makes one, and {VARIABLE}=PREFIX/lib/kistalub/{NAME} in the environment says where it is"
+REMEDY = (
+    f"bin/install PREFIX makes one, and {VARIABLE}=PREFIX/lib/kistalub/{NAME} in the environment "
+    "says where it is"
+)
 
 # The constants of papi.h that are used here.
 VERSION_7 = 7 << 24
@@ -26,14 +30,17 @@ RUNNING = 0x02
 OPTION_MULTIPLEX, OPTION_DOMAIN = 3, 5
 ENUM_EVENTS, ENUM_FIRST, ENUM_UMASKS = 0, 1, 15
 MOST = (1 << 31) - 1  # the largest int
-SHORT, LONG, LONGEST, TERMS = 64, 256, 1024, 12  # lengths of texts in bytes, and how many native events an event has at most
+# lengths of texts in bytes, and how many native events an event has at most
+SHORT, LONG, LONGEST, TERMS = 64, 256, 1024, 12
 
-# PAPI_overflow_handler_t: the set, the address of the occurrence, a bit for each place in the set, and no context.
+# PAPI_overflow_handler_t: the set, the address of the occurrence, a bit for each place in the set,
+# and no context.
 OVERFLOW_HANDLER = ctypes.CFUNCTYPE(None, c_int, c_void_p, c_longlong, c_void_p)
 
 
 class MultiplexOption(ctypes.Structure):
-    """PAPI_multiplex_option_t: the set, its slice in nanoseconds of the model's clock, and flags."""
+    """PAPI_multiplex_option_t: the set, its slice in nanoseconds of the model's clock, and
+    flags."""
 
     _fields_ = [("eventset", c_int), ("ns", c_int), ("flags", c_int)]
 
@@ -47,16 +54,21 @@ class DomainOption(ctypes.Structure):
 class Option(ctypes.Union):
     """PAPI_option_t, with room for its largest member."""
 
-    _fields_ = [("multiplex", MultiplexOption), ("domain", DomainOption), ("room", ctypes.c_char * 512)]
+    _fields_ = [
+        ("multiplex", MultiplexOption), ("domain", DomainOption), ("room", ctypes.c_char * 512),
+    ]
 
 
 class Info(ctypes.Structure):
     """PAPI_event_info_t."""
 
     _fields_ = [
-        ("event_code", c_uint), ("symbol", ctypes.c_char * LONGEST), ("short_descr", ctypes.c_char * SHORT), ("long_descr", ctypes.c_char * LONGEST),
-        ("component_index", c_int), ("units", ctypes.c_char * SHORT), ("kinds", c_int * 6), ("count", c_uint), ("event_type", c_uint),
-        ("derived", ctypes.c_char * SHORT), ("postfix", ctypes.c_char * LONG), ("code", c_uint * TERMS),
+        ("event_code", c_uint), ("symbol", ctypes.c_char * LONGEST),
+        ("short_descr", ctypes.c_char * SHORT), ("long_descr", ctypes.c_char * LONGEST),
+        ("component_index", c_int), ("units", ctypes.c_char * SHORT), ("kinds", c_int * 6),
+        ("count", c_uint), ("event_type", c_uint),
+        ("derived", ctypes.c_char * SHORT), ("postfix", ctypes.c_char * LONG),
+        ("code", c_uint * TERMS),
         ("name", ctypes.c_char * LONG * TERMS), ("note", ctypes.c_char * LONGEST),
     ]  # fmt: skip
 
@@ -93,11 +105,15 @@ _FUNCTIONS = {
 
 
 def library_path() -> str:
-    """The file of the shared library: what KISTALUB_LIBRARY names, or the one beside this module, or under a prefix of bin/install. FileNotFoundError if there is none."""
+    """The file of the shared library: what KISTALUB_LIBRARY names, or the one beside this module,
+    or under a prefix of bin/install. FileNotFoundError if there is none."""
     named = os.environ.get(VARIABLE)
     if named:
-        if os.sep in named and not Path(named).is_file():  # (without a folder the system looks for it)
-            raise FileNotFoundError(f"kistalub: {VARIABLE} is {named}, and there is no such file: {REMEDY}")
+        # (without a folder the system looks for it)
+        if os.sep in named and not Path(named).is_file():
+            raise FileNotFoundError(
+                f"kistalub: {VARIABLE} is {named}, and there is no such file: {REMEDY}"
+            )
         return named
     own = Path(__file__).parent / NAME  # of a wheel that has it
     if own.is_file():
@@ -106,23 +122,30 @@ def library_path() -> str:
         path = Path(prefix) / "lib/kistalub" / NAME
         if path.is_file():
             return str(path)
-    raise FileNotFoundError(f"kistalub: no {NAME} in lib/kistalub under {', '.join(dict.fromkeys(PREFIXES))}: {REMEDY}")
+    raise FileNotFoundError(
+        f"kistalub: no {NAME} in lib/kistalub under {', '.join(dict.fromkeys(PREFIXES))}: {REMEDY}"
+    )
 
 
 @lru_cache(maxsize=None)
 def loaded() -> ctypes.CDLL:
-    """The library with the types of its functions. OSError if it can't be loaded, ImportError if it is PAPI's own or older than this module."""
+    """The library with the types of its functions. OSError if it can't be loaded, ImportError if it
+    is PAPI's own or older than this module."""
     path = library_path()
     try:
         library = ctypes.CDLL(path)
     except OSError as error:
-        raise OSError(f"kistalub: {path} is no shared library that can be loaded here ({error}): {REMEDY}") from None
+        raise OSError(
+            f"kistalub: {path} is no shared library that can be loaded here ({error}): {REMEDY}"
+        ) from None
     if not hasattr(library, "kistalub_go"):
         raise ImportError(f"kistalub: {path} is not Kistalub's library: {REMEDY}")
     for name, arguments in _FUNCTIONS.items():
         function = getattr(library, name, None)
         if function is None:
-            raise ImportError(f"kistalub: {path} has no {name}: it is older than this module. {REMEDY}")
+            raise ImportError(
+                f"kistalub: {path} has no {name}: it is older than this module. {REMEDY}"
+            )
         function.argtypes = arguments
         function.restype = c_int
     library.PAPI_strerror.argtypes = [c_int]
@@ -141,7 +164,8 @@ def text_of(text: str | bytes) -> bytes:
 
 
 class _Raised(threading.local):
-    """What a handler of this thread raised: no exception crosses C, so it waits for the end of the call in which time went on."""
+    """What a handler of this thread raised: no exception crosses C, so it waits for the end of the
+    call in which time went on."""
 
     error: BaseException | None = None
 
@@ -160,7 +184,8 @@ def keep_raised(error: BaseException) -> None:
 
 
 def call(name: str, *arguments: object) -> int:
-    """Calls a function, and gives its answer. Raises what a handler raised meanwhile, or the exception of a code below 0."""
+    """Calls a function, and gives its answer. Raises what a handler raised meanwhile, or the
+    exception of a code below 0."""
     library = loaded()
     answer: int = getattr(library, name)(*arguments)
     error, _raised.error = _raised.error, None

@@ -4,8 +4,9 @@ from __future__ import annotations
 
 
 class PapiError(Exception):
-    """A call was refused. `code` is PAPI's code, below 0, `call` the function of PAPI, and `message` what PAPI_strerror says of the code. `advice` is what to
-    do about it, if that is known."""
+    """A call was refused. `code` is PAPI's code, below 0, `call` the function of PAPI, and
+    `message` what PAPI_strerror says of the code. `advice` is what to do about it, if that is
+    known."""
 
     code = 0
     advice = ""
@@ -17,7 +18,9 @@ class PapiError(Exception):
         self.call = call
         self.message = message
         self.advice = self.advice_of.get(call, self.advice)
-        super().__init__(f"{call}: {self.name}: {message}" + (f" ({self.advice})" if self.advice else ""))
+        super().__init__(
+            f"{call}: {self.name}: {message}" + (f" ({self.advice})" if self.advice else "")
+        )
 
     def __reduce__(self) -> tuple[type[PapiError], tuple[str, str, int]]:
         """So that another process can be given it."""
@@ -53,7 +56,8 @@ class ENOMEM(PapiError):
 
 
 class ESYS(PapiError):
-    """A file is missing or faulty, or the system refused something. A line on standard error says which and why."""
+    """A file is missing or faulty, or the system refused something. A line on standard error says
+    which and why."""
 
     code = -3
     advice = "a line on standard error says which file, and why"

@@ -6,13 +6,16 @@ import ctypes
 from dataclasses import dataclass
 from typing import Iterator
 
-from .binding import ENUM_EVENTS, ENUM_FIRST, ENUM_UMASKS, LONGEST, NATIVE_MASK, PRESET_MASK, Info, call, text_of
+from .binding import (
+    ENUM_EVENTS, ENUM_FIRST, ENUM_UMASKS, LONGEST, NATIVE_MASK, PRESET_MASK, Info, call, text_of,
+)
 from .errors import ENOEVNT
 
 
 @dataclass(frozen=True)
 class EventInfo:
-    """What is told of an event. A preset or user event has a derived type, a formula and native events, and a native event has none."""
+    """What is told of an event. A preset or user event has a derived type, a formula and native
+    events, and a native event has none."""
 
     name: str
     description: str
@@ -23,7 +26,8 @@ class EventInfo:
 
 
 def code_of(name: str) -> int:
-    """The code of an event. `ENOEVNT` if there is no such event, ValueError if the name has a NUL."""
+    """The code of an event. `ENOEVNT` if there is no such event, ValueError if the name has a
+    NUL."""
     code = ctypes.c_int(0)
     call("PAPI_event_name_to_code", text_of(name), ctypes.byref(code))
     return code.value
@@ -34,11 +38,15 @@ def describe(name: str) -> EventInfo:
     info = Info()
     call("PAPI_get_event_info", code_of(name), ctypes.byref(info))
     natives = tuple(info.name[place].value.decode() for place in range(info.count))
-    return EventInfo(info.symbol.decode(), info.long_descr.decode(), info.component_index, info.derived.decode(), info.postfix.decode(), natives)
+    return EventInfo(
+        info.symbol.decode(), info.long_descr.decode(), info.component_index, info.derived.decode(),
+        info.postfix.decode(), natives,
+    )
 
 
 def native_events(*, umasks: bool = False) -> list[str]:
-    """The names of the native events of all components, in the order of the unit file. With `umasks` the names with each umask follow that of the event."""
+    """The names of the native events of all components, in the order of the unit file. With
+    `umasks` the names with each umask follow that of the event."""
     names = []
     for code in _codes(NATIVE_MASK):
         names.append(_name_of(code))

@@ -10,9 +10,9 @@ from .binding import call, text_of
 
 @contextmanager
 def region(name: str) -> Iterator[None]:
-    """`with region("sort"):` counts the events of PAPI_EVENTS in the block, in this thread. What all
-    regions counted is written to a folder papi_hl_output when the process ends. Regions may stand
-    in others. The library begins by itself, over the files of the environment.
+    """`with region("sort"):` counts the events of PAPI_EVENTS in the block, in this thread. What
+    all regions counted is written to a folder papi_hl_output when the process ends. Regions may
+    stand in others. The library begins by itself, over the files of the environment.
 
     `ENOMEM` if the region stands in ten others or memory is refused, `EMISC` if one failed before.
     """

@@ -1,4 +1,5 @@
-"""The version of Kistalub, from the file VERSION: an installed package has it beside this file, a checkout at its top."""
+"""The version of Kistalub, from the file VERSION: an installed package has it beside this file, a
+checkout at its top."""
 
 from __future__ import annotations
 

@@ -20,7 +20,8 @@ sys.path.insert(0, str(ROOT / "python"))
 
 @lru_cache(maxsize=None)
 def built_library() -> Path:
-    """A folder of the library for C that is built from the archive, once for all tests. Skips the tests if that is not built."""
+    """A folder of the library for C that is built from the archive, once for all tests. Skips the
+    tests if that is not built."""
     archive = ROOT / "crates/papi_c/out/libpapi_c.a"
     if not archive.exists() or not (shutil.which("rt") or os.environ.get("KISTALUB_HEAP")):
         raise unittest.SkipTest("crates/papi_c/out/libpapi_c.a is not built")
@@ -48,11 +49,15 @@ class WithPython(unittest.TestCase):
     def run_python(self, *words: str, **variables: str) -> subprocess.CompletedProcess[str]:
         """Python over the module, at the top of the repository."""
         environment = {**os.environ, "PYTHONPATH": str(ROOT / "python"), **variables}
-        return subprocess.run([sys.executable, "-B", *words], cwd=ROOT, env=environment, capture_output=True, text=True, timeout=120)
+        return subprocess.run(
+            [sys.executable, "-B", *words], cwd=ROOT, env=environment, capture_output=True,
+            text=True, timeout=120,
+        )
 
 
 class OverLibrary(WithPython):
-    """Tests over the shared library. The variables of the environment that name files are not set."""
+    """Tests over the shared library. The variables of the environment that name files are not
+    set."""
 
     @classmethod
     def setUpClass(cls) -> None:

@@ -15,7 +15,8 @@ import kistalub
 from kistalub import Domain, EventSet, Library
 
 FIRST = EXAMPLES / "c/first.stream"  # two instructions, and seven cycles between them
-LARGE = EXAMPLES / "c/overflow.stream"  # eight occurrences of 255 instructions, at the addresses 1 to 8
+# eight occurrences of 255 instructions, at the addresses 1 to 8
+LARGE = EXAMPLES / "c/overflow.stream"
 
 
 class Counting(OverLibrary):
@@ -56,7 +57,10 @@ class Counting(OverLibrary):
         with Library(UNIT, stream=FIRST), EventSet() as events:
             events.add("INST_RETIRED", "REF", "CYCLES")
             events.remove("REF")
-            self.assertEqual((len(events), list(events), "REF" in events, "CYCLES" in events), (2, ["INST_RETIRED", "CYCLES"], False, True))
+            self.assertEqual(
+                (len(events), list(events), "REF" in events, "CYCLES" in events),
+                (2, ["INST_RETIRED", "CYCLES"], False, True),
+            )
             with events.counting() as counts:
                 kistalub.go()
             self.assertEqual(counts, {"INST_RETIRED": 2, "CYCLES": 7})
@@ -64,21 +68,28 @@ class Counting(OverLibrary):
 
     def test_domains(self) -> None:
         stream = self.stream("0 c0 00 u 3 1", "0 c0 00 k 5 2")
-        for domain, wanted in ((None, 3), (Domain.USER, 3), (Domain.KERNEL, 5), (Domain.USER | Domain.KERNEL, 8)):
+        for domain, wanted in (
+            (None, 3), (Domain.USER, 3), (Domain.KERNEL, 5), (Domain.USER | Domain.KERNEL, 8),
+        ):
             with Library(UNIT, stream=stream), EventSet("INST_RETIRED", domain=domain) as events:
                 with events.counting() as counts:
                     kistalub.go()
                 self.assertEqual(counts, {"INST_RETIRED": wanted}, domain)
 
     def test_a_multiplexed_set_estimates(self) -> None:
-        """Branches and mispredictions by turns of two ticks: each group sees two of its four, in half of the time."""
-        with Library(UNIT, stream=EXAMPLES / "c/multiplex.stream"), EventSet("BR_INST", "BR_MISP", multiplexed=True, slice_ns=2) as events:
+        """Branches and mispredictions by turns of two ticks: each group sees two of its four, in
+        half of the time."""
+        with Library(UNIT, stream=EXAMPLES / "c/multiplex.stream"), EventSet(
+            "BR_INST", "BR_MISP", multiplexed=True, slice_ns=2
+        ) as events:
             with events.counting() as counts:
                 kistalub.go()
             self.assertEqual(counts, {"BR_INST": 4, "BR_MISP": 4})
 
     def test_presets(self) -> None:
-        with Library(UNIT, presets=EXAMPLES / "lab.presets", cpu="lab2", stream=FIRST), EventSet("PAPI_RES_STL") as events:
+        with Library(UNIT, presets=EXAMPLES / "lab.presets", cpu="lab2", stream=FIRST), EventSet(
+            "PAPI_RES_STL"
+        ) as events:
             with events.counting() as counts:
                 kistalub.go()
             self.assertEqual(counts, {"PAPI_RES_STL": 5})  # cycles less instructions
@@ -89,7 +100,9 @@ class Names(OverLibrary):
 
     def test_events_by_any_of_their_names(self) -> None:
         with Library(UNIT, stream=FIRST), EventSet("inst_retired", "lab::CYCLES") as events:
-            for name in ("INST_RETIRED", "inst_retired", "lab::Inst_Retired", "cycles", "LAB::CYCLES"):
+            for name in (
+                "INST_RETIRED", "inst_retired", "lab::Inst_Retired", "cycles", "LAB::CYCLES",
+            ):
                 self.assertIn(name, events)
             for name in ("REF", "NO_SUCH", "INST_RETIRED:u", "", "CYCLES\0", 7, None):
                 self.assertNotIn(name, events)
@@ -130,7 +143,9 @@ class Names(OverLibrary):
             others.remove(["INST_RETIRED", "CYCLES"])
             self.assertEqual((len(events), len(others)), (2, 0))
             for odd in (7, None, b"CYCLES", ["CYCLES", 7], [["CYCLES"]]):
-                with self.assertRaisesRegex(TypeError, r"is no name of an event: .* EventSet\('INST_RETIRED', 'CYCLES'\)"):
+                with self.assertRaisesRegex(
+                    TypeError, r"is no name of an event: .* EventSet\('INST_RETIRED', 'CYCLES'\)"
+                ):
                     EventSet(odd)  # type: ignore[arg-type]
 
 
@@ -144,10 +159,15 @@ class Arrays(OverLibrary):
             self.assertEqual(list(values), [2, 7, 9])
             events.read_into(memoryview(values)[1:])
             self.assertEqual(list(values), [2, 2, 7])
-            for odd in (array("i", [0] * 4), array("d", [0.0] * 2), bytes(16), memoryview(values).toreadonly(), memoryview(values)[::2]):
+            for odd in (
+                array("i", [0] * 4), array("d", [0.0] * 2), bytes(16),
+                memoryview(values).toreadonly(), memoryview(values)[::2],
+            ):
                 with self.assertRaisesRegex(TypeError, "64-bit integers that stand side by side"):
                     events.read_into(odd)
-            with self.assertRaisesRegex(ValueError, "there is room for 1 counts, and the set has 2"):
+            with self.assertRaisesRegex(
+                ValueError, "there is room for 1 counts, and the set has 2"
+            ):
                 events.read_into(values[:1])
 
     @unittest.skipUnless(importlib.util.find_spec("numpy"), "numpy is not installed")
@@ -165,45 +185,78 @@ class Arrays(OverLibrary):
 
 class Refusals(OverLibrary):
     def test_each_has_its_exception(self) -> None:
-        with Library(UNIT, stream=FIRST), EventSet("INST_RETIRED") as events, EventSet("BR_INST") as branches:
+        with Library(UNIT, stream=FIRST), EventSet("INST_RETIRED") as events, EventSet(
+            "BR_INST"
+        ) as branches:
             cases = (
                 ("no such event", kistalub.ENOEVNT, lambda: events.add("NO_SUCH")),
                 ("an event that is there", kistalub.EINVAL, lambda: events.add("INST_RETIRED")),
                 ("one counter for two", kistalub.ECNFLCT, lambda: branches.add("BR_MISP")),
                 ("not in the set", kistalub.ENOEVNT, lambda: events.remove("CYCLES")),
                 ("does not run", kistalub.ENOTRUN, events.stop),
-                ("a threshold of an event that is not there", kistalub.ENOEVNT, lambda: events.on_overflow("CYCLES", 256, print)),
-                ("a threshold that is too small", kistalub.EINVAL, lambda: events.on_overflow("INST_RETIRED", 255, print)),
-                ("no threshold to take away", kistalub.EINVAL, lambda: events.end_overflow("INST_RETIRED")),
+                (
+                    "a threshold of an event that is not there", kistalub.ENOEVNT,
+                    lambda: events.on_overflow("CYCLES", 256, print),
+                ),
+                (
+                    "a threshold that is too small", kistalub.EINVAL,
+                    lambda: events.on_overflow("INST_RETIRED", 255, print),
+                ),
+                (
+                    "no threshold to take away", kistalub.EINVAL,
+                    lambda: events.end_overflow("INST_RETIRED"),
+                ),
                 ("a library in a library", kistalub.EINVAL, Library(UNIT).__enter__),
-                ("a domain that there is not", kistalub.EINVAL_DOM, lambda: EventSet(domain=Domain(4))),
+                (
+                    "a domain that there is not", kistalub.EINVAL_DOM,
+                    lambda: EventSet(domain=Domain(4)),
+                ),
             )
             for title, kind, act in cases:
                 with self.subTest(title), self.assertRaises(kind):
                     act()
             events.start()
-            for act in (events.start, lambda: events.add("CYCLES"), lambda: events.remove("INST_RETIRED")):
+            for act in (
+                events.start, lambda: events.add("CYCLES"), lambda: events.remove("INST_RETIRED"),
+            ):
                 self.assertRaises(kistalub.EISRUN, act)
 
     def test_what_an_exception_says(self) -> None:
         with Library(UNIT), self.assertRaises(kistalub.PapiError) as raised:
             EventSet("NO_SUCH")
         error = raised.exception
-        self.assertEqual((error.code, error.name, error.call), (-7, "PAPI_ENOEVNT", "PAPI_add_named_event"))
+        self.assertEqual(
+            (error.code, error.name, error.call), (-7, "PAPI_ENOEVNT", "PAPI_add_named_event")
+        )
         advice = "native_events(umasks=True), preset_events() and user_events() list what there is"
-        self.assertEqual(str(error), f"PAPI_add_named_event: PAPI_ENOEVNT: Event does not exist ({advice})")
+        self.assertEqual(
+            str(error), f"PAPI_add_named_event: PAPI_ENOEVNT: Event does not exist ({advice})"
+        )
         self.assertEqual(error.advice, advice)
         copied = pickle.loads(pickle.dumps(error))
-        self.assertEqual((type(copied), str(copied), copied.code), (type(error), str(error), error.code))
+        self.assertEqual(
+            (type(copied), str(copied), copied.code), (type(error), str(error), error.code)
+        )
 
     def test_advice_fits_the_call(self) -> None:
-        """Each refusal that one meets while counting says what to do, and EINVAL what it is about."""
-        with Library(UNIT, stream=FIRST), EventSet("INST_RETIRED") as events, EventSet("BR_INST") as branches, EventSet() as empty:
+        """Each refusal that one meets while counting says what to do, and EINVAL what it is
+        about."""
+        with Library(UNIT, stream=FIRST), EventSet("INST_RETIRED") as events, EventSet(
+            "BR_INST"
+        ) as branches, EventSet() as empty:
             cases = (
-                (lambda: events.add("INST_RETIRED"), "the set has the event already"), (empty.start, "the set has no event"),
-                (lambda: events.on_overflow("INST_RETIRED", 1, print), "a threshold is from 256 on"), (Library(UNIT).__enter__, "a library is begun already"),
-                (lambda: branches.add("BR_MISP"), "multiplexed=True"), (events.stop, "start() begins to count"), (lambda: kistalub.thread(5), "another number already"),
-                (lambda: events.remove("CYCLES"), "EventSet.events has the names"), (lambda: EventSet(domain=Domain(4)), "Domain.USER"),
+                (lambda: events.add("INST_RETIRED"), "the set has the event already"),
+                (empty.start, "the set has no event"),
+                (
+                    lambda: events.on_overflow("INST_RETIRED", 1, print),
+                    "a threshold is from 256 on",
+                ),
+                (Library(UNIT).__enter__, "a library is begun already"),
+                (lambda: branches.add("BR_MISP"), "multiplexed=True"),
+                (events.stop, "start() begins to count"),
+                (lambda: kistalub.thread(5), "another number already"),
+                (lambda: events.remove("CYCLES"), "EventSet.events has the names"),
+                (lambda: EventSet(domain=Domain(4)), "Domain.USER"),
             )
             for act, advice in cases:
                 with self.assertRaises(kistalub.PapiError) as raised:
@@ -214,11 +267,15 @@ class Refusals(OverLibrary):
             with self.assertRaisesRegex(kistalub.EISRUN, r"\(stop\(\) the set first\)$"):
                 events.start()
             events.close()
-            with self.assertRaisesRegex(kistalub.ENOINIT, r"\(a new set counts in the library that is begun\)$"):
+            with self.assertRaisesRegex(
+                kistalub.ENOINIT, r"\(a new set counts in the library that is begun\)$"
+            ):
                 events.start()
 
     def test_a_handler_that_can_not_be_called(self) -> None:
-        with Library(UNIT), EventSet("INST_RETIRED") as events, self.assertRaisesRegex(TypeError, "end_overflow takes a threshold away"):
+        with Library(UNIT), EventSet("INST_RETIRED") as events, self.assertRaisesRegex(
+            TypeError, "end_overflow takes a threshold away"
+        ):
             events.on_overflow("INST_RETIRED", 256, None)  # type: ignore[arg-type]
 
     def test_a_refused_set_is_destroyed(self) -> None:
@@ -243,10 +300,14 @@ class Refusals(OverLibrary):
             self.assertRaises(ValueError, kistalub.thread, 1 << 32)
             self.assertEqual(kistalub.go(0), 0)
             self.assertRaises(ValueError, EventSet, "INST_RETIRED\0")
-            self.assertRaises(kistalub.EINVAL, lambda: EventSet(multiplexed=True, slice_ns=(1 << 32) + 5))
+            self.assertRaises(
+                kistalub.EINVAL, lambda: EventSet(multiplexed=True, slice_ns=(1 << 32) + 5)
+            )
             with EventSet("INST_RETIRED") as events:
                 for threshold in (-1, 0, 255, (1 << 32) + 300):
-                    self.assertRaises(kistalub.EINVAL, events.on_overflow, "INST_RETIRED", threshold, print)
+                    self.assertRaises(
+                        kistalub.EINVAL, events.on_overflow, "INST_RETIRED", threshold, print
+                    )
         self.assertRaises(ValueError, Library(f"{UNIT}\0").__enter__)
 
 
@@ -254,7 +315,10 @@ class Handlers(OverLibrary):
     def test_each_passing_in_order(self) -> None:
         told = []
         with Library(UNIT, stream=LARGE), EventSet("INST_RETIRED") as events:
-            events.on_overflow("INST_RETIRED", 1000, lambda name, address: told.append((name, address, events.read()[name])))
+            events.on_overflow(
+                "INST_RETIRED", 1000,
+                lambda name, address: told.append((name, address, events.read()[name])),
+            )
             events.start()
             self.assertEqual(kistalub.go(), 8)
             self.assertEqual(events.stop(), {"INST_RETIRED": 2040})
@@ -264,7 +328,9 @@ class Handlers(OverLibrary):
         told = []
         stream = self.stream(*["0 c0 00 u 255 7", "0 3c 00 u 255 8"] * 4)
         with Library(UNIT, stream=stream), EventSet("INST_RETIRED", "CYCLES") as events:
-            events.on_overflow("INST_RETIRED", 500, lambda name, address: told.append((name, address)))
+            events.on_overflow(
+                "INST_RETIRED", 500, lambda name, address: told.append((name, address))
+            )
             events.on_overflow("CYCLES", 1000, lambda name, address: told.append((name, address)))
             events.start()
             kistalub.go()
@@ -301,7 +367,9 @@ class Handlers(OverLibrary):
                 kistalub.go()
 
     def test_none_in_a_multiplexed_set(self) -> None:
-        with Library(UNIT), EventSet("INST_RETIRED", multiplexed=True) as events, self.assertRaises(kistalub.ECOMBO):
+        with Library(UNIT), EventSet("INST_RETIRED", multiplexed=True) as events, self.assertRaises(
+            kistalub.ECOMBO
+        ):
             events.on_overflow("INST_RETIRED", 1000, print)
 
 
@@ -326,14 +394,20 @@ class Threads(OverLibrary):
             for thread in threads:
                 thread.join()
             work(0)
-        self.assertEqual(counts, {0: {"INST_RETIRED": 1}, 1: {"INST_RETIRED": 20}, 2: {"INST_RETIRED": 30}})
+        self.assertEqual(
+            counts, {0: {"INST_RETIRED": 1}, 1: {"INST_RETIRED": 20}, 2: {"INST_RETIRED": 30}}
+        )
 
     def test_handlers_of_many_threads(self) -> None:
-        """Each thread is told of its own passings alone, and what a handler raises stays in its thread."""
+        """Each thread is told of its own passings alone, and what a handler raises stays in its
+        thread."""
         told: dict[int, list[int]] = {number: [] for number in range(1, 9)}
         raised: list[int] = []
         for number in told:
-            self.stream(*[f"0 c0 00 u 255 {number:x}{place:02x}" for place in range(200)], name=f"{number}.stream")
+            self.stream(
+                *[f"0 c0 00 u 255 {number:x}{place:02x}" for place in range(200)],
+                name=f"{number}.stream",
+            )
 
         def work(number: int) -> None:
             def handler(name: str, address: int) -> None:
