@@ -1,4 +1,5 @@
-"""What papi_regions prints, worked out from what papi_run reads at the begins, reads and ends of the regions."""
+"""What papi_regions prints, worked out from what papi_run reads at the begins, reads and ends of
+the regions."""
 
 from __future__ import annotations
 
@@ -11,8 +12,12 @@ SCRIPT = "readings"
 
 
 def by_reading(program: Program, words: list[str], folder: Path) -> Run | None:
-    """The run that is wanted of these words, or nothing if it is not worked out: if words are changed, or no thread has a line."""
-    if words.count("--events") != 1 or words.count("script") != 1 or "--" in words or words[-1] == "--events":
+    """The run that is wanted of these words, or nothing if it is not worked out: if words are
+    changed, or no thread has a line."""
+    if (
+        words.count("--events") != 1 or words.count("script") != 1 or "--" in words
+        or words[-1] == "--events"
+    ):
         return None
     place = words.index("--events")
     events = words[place + 1].split(",")
@@ -33,7 +38,13 @@ def by_reading(program: Program, words: list[str], folder: Path) -> Run | None:
 
 def lines_of(content: bytes) -> list[tuple[int, str, str, str]]:
     """The call lines of a region script: number, thread, call and argument."""
-    words = [(number, line.split()) for number, line in enumerate(content.decode("latin-1").replace("\r\n", "\n").split("\n"), 1) if line[:1] != "#"]
+    words = [
+        (number, line.split())
+        for number, line in enumerate(
+            content.decode("latin-1").replace("\r\n", "\n").split("\n"), 1
+        )
+        if line[:1] != "#"
+    ]
     return [(number, *line) for number, line in words if len(line) == 3]
 
 
@@ -41,15 +52,23 @@ def calls_for(lines: list[tuple[int, str, str, str]], events: list[str]) -> list
     """A set for each thread, and a call for each line."""
     calls: list[str] = []
     for thread in dict.fromkeys(line[1] for line in lines):
-        calls += [f"{thread} create", *(f"{thread} add 0 {event}" for event in events), f"{thread} start 0"]
-    return calls + [f"{thread} run {argument}" if call == "run" else f"{thread} read 0" for _, thread, call, argument in lines]
+        calls += [
+            f"{thread} create", *(f"{thread} add 0 {event}" for event in events),
+            f"{thread} start 0",
+        ]
+    return calls + [
+        f"{thread} run {argument}" if call == "run" else f"{thread} read 0"
+        for _, thread, call, argument in lines
+    ]
 
 
 def wrapped(value: int) -> int:
     return (value + (1 << 63)) % (1 << 64) - (1 << 63)
 
 
-def report(lines: list[tuple[int, str, str, str]], replies: list[list[str]], setting_up: int) -> str:
+def report(
+    lines: list[tuple[int, str, str, str]], replies: list[list[str]], setting_up: int
+) -> str:
     threads = sorted({int(line[1]) for line in lines})
     opened: dict[int, list[tuple[str, list[int]]]] = {thread: [] for thread in threads}
     totals: dict[int, dict[str, tuple[int, list[int]]]] = {thread: {} for thread in threads}
@@ -69,7 +88,11 @@ def report(lines: list[tuple[int, str, str, str]], replies: list[list[str]], set
         else:
             opened[thread].pop()
             instances, sums = totals[thread][name]
-            totals[thread][name] = (instances + 1, [wrapped(total + value) for total, value in zip(sums, counted)])
+            totals[thread][name] = (
+                instances + 1, [wrapped(total + value) for total, value in zip(sums, counted)],
+            )
     for thread in threads:
-        shown += [[thread, name, instances, *sums] for name, (instances, sums) in totals[thread].items()]
+        shown += [
+            [thread, name, instances, *sums] for name, (instances, sums) in totals[thread].items()
+        ]
     return "".join(" ".join(map(str, line)) + "\n" for line in shown)

@@ -1,4 +1,5 @@
-"""The documents as `docs` reads them: their fenced blocks, their links, and the names of the code that their tables give."""
+"""The documents as `docs` reads them: their fenced blocks, their links, and the names of the code
+that their tables give."""
 
 from __future__ import annotations
 
@@ -36,7 +37,8 @@ class Shown:
 
 @dataclass
 class Block:
-    """A fenced block: the line where it begins, its kind, its marks (`file=NAME`, `part=NAME`, `needs=NAME,..`), its text, and its commands."""
+    """A fenced block: the line where it begins, its kind, its marks (`file=NAME`, `part=NAME`,
+    `needs=NAME,..`), its text, and its commands."""
 
     line: int
     kind: str
@@ -56,7 +58,10 @@ def blocks_of(path: Path) -> list[Block]:
         kind, *marks = lines[number][3:].split() or [""]
         end = lines.index("```", number + 1)
         body = lines[number + 1 : end]
-        block = Block(number + 1, kind, dict(mark.split("=", 1) for mark in marks), "".join(f"{line}\n" for line in body))
+        block = Block(
+            number + 1, kind, dict(mark.split("=", 1) for mark in marks),
+            "".join(f"{line}\n" for line in body),
+        )
         if kind == "console":
             block.examples = commands_in(body)
         blocks.append(block)
@@ -74,7 +79,10 @@ def commands_in(body: list[str]) -> list[Shown]:
             commands[-1][0].append(line[2:])
         else:
             commands[-1][1].append(line)
-    return [Shown("\n".join(command), "".join(f"{line}\n" for line in output)) for command, output in commands]
+    return [
+        Shown("\n".join(command), "".join(f"{line}\n" for line in output))
+        for command, output in commands
+    ]
 
 
 def prose_of(path: Path) -> list[tuple[int, str]]:
@@ -106,7 +114,8 @@ def words_of(path: Path) -> int:
 
 
 def long_cells(path: Path) -> list[tuple[int, int]]:
-    """The lines with cells over MOST_CELL characters, and how many. Targets of links do not count."""
+    """The lines with cells over MOST_CELL characters, and how many. Targets of links do not
+    count."""
     found = []
     for number, line in by_hand(path):
         if line.startswith("|"):
@@ -139,13 +148,17 @@ def links_of(path: Path) -> list[tuple[int, str]]:
 @lru_cache(maxsize=None)
 def anchors_of(path: Path) -> frozenset[str]:
     headings = [line.lstrip("#").strip() for _, line in prose_of(path) if line.startswith("#")]
-    return frozenset(re.sub(r"[^\w\- ]", "", heading.lower()).replace(" ", "-") for heading in headings)
+    return frozenset(
+        re.sub(r"[^\w\- ]", "", heading.lower()).replace(" ", "-") for heading in headings
+    )
 
 
 def lines_with_names(path: Path) -> list[tuple[int, list[Path], list[str]]]:
-    """The rows of tables that say where a thing stands: the files, and the names in the last cell that must occur there.
+    """The rows of tables that say where a thing stands: the files, and the names in the last cell
+    that must occur there.
 
-    If the last column is headed `Functions` the row has a link to its file, and if it is headed `Where` its first cell has its crates.
+    If the last column is headed `Functions` the row has a link to its file, and if it is headed
+    `Where` its first cell has its crates.
     """
     rows = []
     head: list[str] = []
@@ -155,17 +168,23 @@ def lines_with_names(path: Path) -> list[tuple[int, list[Path], list[str]]]:
             continue
         cells = [cell.strip() for cell in line.strip().strip("|").split("|")]
         head = head or cells
-        links = [(path.parent / target).resolve() for target in re.findall(r"\]\(([^)#\s]+)\)", line)] if head[-1] == "Functions" else []
+        links = (
+            [(path.parent / target).resolve() for target in re.findall(r"\]\(([^)#\s]+)\)", line)]
+            if head[-1] == "Functions" else []
+        )
         crates = re.findall(r"`(\w+)`", cells[0]) if head[-1] == "Where" else []
         names = re.findall(r"`([A-Za-z_][\w:]*)`", re.sub(r"\[[^\]]*\]\([^)]*\)", "", cells[-1]))
-        files = [file for file in links if file.exists()] or [ROOT / "crates" / crate for crate in crates]
+        files = [file for file in links if file.exists()] or [
+            ROOT / "crates" / crate for crate in crates
+        ]
         if files and names:
             rows.append((number, files, [part for name in names for part in name.split("::")]))
     return rows
 
 
 def names_in(files: list[Path]) -> set[str]:
-    """The functions that these files define, or all words of the sources and definitions of these crates, without their comments."""
+    """The functions that these files define, or all words of the sources and definitions of these
+    crates, without their comments."""
     return set().union(*(_names(file) for file in files))
 
 

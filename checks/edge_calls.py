@@ -1,5 +1,6 @@
-"""Makes the calls of `edges` on a library: edge_calls LIBRARY EVENT EVENT, with a call a line on standard input, `STATE FUNCTION ARGUMENT..`. Each has a process of its own,
-which brings the library into the state first. One line is the answer to each: a number, or how the process ended."""
+"""Makes the calls of `edges` on a library: edge_calls LIBRARY EVENT EVENT, with a call a line on
+standard input, `STATE FUNCTION ARGUMENT..`. Each has a process of its own, which brings the library
+into the state first. One line is the answer to each: a number, or how the process ended."""
 
 from __future__ import annotations
 
@@ -85,7 +86,9 @@ ARGUMENTS: dict[str, Callable[[State], Any]] = {
 }
 _begin = lambda state: state.library.PAPI_library_init(VERSION)  # noqa: E731
 _create = lambda state: state.library.PAPI_create_eventset(byref(state.set))  # noqa: E731
-_add = lambda state: state.library.PAPI_add_event(state.set, c_int(state.code(state.events[0])))  # noqa: E731
+_add = lambda state: state.library.PAPI_add_event(
+    state.set, c_int(state.code(state.events[0]))
+)  # noqa: E731
 _start = lambda state: state.library.PAPI_start(state.set)  # noqa: E731
 _stop = lambda state: state.library.PAPI_stop(state.set, state.values)  # noqa: E731
 _end = lambda state: state.library.PAPI_shutdown() or 0  # noqa: E731

@@ -7,7 +7,12 @@ from random import Random
 from running import RUNNING, TOOLS
 
 TABLES = [["-P", "presets"], ["-C", "lab1"]]
-NUMBERS = {"--workers": ("1", "64"), "--thread": ("0", "63"), "--set": ("0", "7"), "--index": ("0", "31")}
+NUMBERS = {
+    "--workers": ("1", "64"),
+    "--thread": ("0", "63"),
+    "--set": ("0", "7"),
+    "--index": ("0", "31"),
+}
 NO_NUMBERS = ("", "x", "1e3", "0x1", "99999999999", "-1")
 VALUES = {"-U": "UNIT", "-P": "PRESETS", "-C": "CPU", "-M": "MAP", "--events": "LIST"}
 
@@ -26,7 +31,9 @@ def _options(rng: Random, tool: str) -> tuple[list[list[str]], list[list[str]], 
         more.append(["-e", "PAPI_TOT_INS"])
     if tool == "papi_profil":
         needed.append(["-M", "map"])
-        more += [[option, rng.choice(NUMBERS[option])] for option in ("--thread", "--set", "--index")]
+        more += [
+            [option, rng.choice(NUMBERS[option])] for option in ("--thread", "--set", "--index")
+        ]
     if tool == "papi_run":
         more.append(["--notes"])
     if tool == "papi_regions":
@@ -51,9 +58,16 @@ def faulty(rng: Random) -> tuple[list[str], str]:
     options = [*needed, *more]
     rng.shuffle(options)
     faults = ["unknown", "twice"] * bool(options) or ["unknown"]
-    faults += ["missing"] * bool(needed) + ["lone"] * (tool in ("papi_event_chooser", *RUNNING)) + ["place"] * bool(words)
-    faults += ["number"] * any(option[0] in NUMBERS for option in options) + ["value"] * any(len(option) == 1 for option in options)
-    faults += ["surplus"] * (tool in ("papi_avail", "papi_decode", "papi_native_avail", "papi_soak"))
+    faults += (
+        ["missing"] * bool(needed) + ["lone"] * (tool in ("papi_event_chooser", *RUNNING))
+        + ["place"] * bool(words)
+    )
+    faults += ["number"] * any(option[0] in NUMBERS for option in options) + ["value"] * any(
+        len(option) == 1 for option in options
+    )
+    faults += ["surplus"] * (
+        tool in ("papi_avail", "papi_decode", "papi_native_avail", "papi_soak")
+    )
     fault = rng.choice(faults)
     expected = ""
     if fault == "unknown":
@@ -71,10 +85,16 @@ def faulty(rng: Random) -> tuple[list[str], str]:
     elif fault == "lone":
         kept, gone = rng.sample(TABLES, 2)
         options.append(kept)
-        expected = f"{gone[0]} {VALUES[gone[0]]} is missing: {kept[0]} {VALUES[kept[0]]} goes with it"
+        expected = (
+            f"{gone[0]} {VALUES[gone[0]]} is missing: {kept[0]} {VALUES[kept[0]]} goes with it"
+        )
     elif fault == "place":
-        expected = {"papi_event_chooser": "EVENT.. is missing", "papi_encode": "NAME.. is missing", "papi_soak": "SIZE is missing", "papi_regions": "REGIONS is missing"}.get(
-            tool, "SCRIPT is missing")
+        expected = {
+            "papi_event_chooser": "EVENT.. is missing",
+            "papi_encode": "NAME.. is missing",
+            "papi_soak": "SIZE is missing",
+            "papi_regions": "REGIONS is missing",
+        }.get(tool, "SCRIPT is missing")
         words = words[:1] if tool == "papi_event_chooser" else []
     elif fault == "number":
         place = rng.choice([place for place, option in enumerate(options) if option[0] in NUMBERS])

@@ -1,4 +1,5 @@
-"""Where the checks and the repository stand. A check that needs modules of tools/ or bin/hints imports this first: they are found after it."""
+"""Where the checks and the repository stand. A check that needs modules of tools/ or bin/hints
+imports this first: they are found after it."""
 
 from __future__ import annotations
 

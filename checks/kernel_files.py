@@ -81,8 +81,8 @@ class Kernel:
     ] | None = None  # the accesses of each turn, if an instruction with rep accesses each line once
 
     def wanted(self, by_lines: bool = False) -> dict[str, int]:
-        """Of each kind that is known: the body's, those of the loop around it, and of what runs once.
-        Without the return."""
+        """Of each kind that is known: the body's, those of the loop around it, and of what runs
+        once. Without the return."""
         each = (
             {**self.each, "loads": 0, "stores": 0, **self.by_lines}
             if by_lines and self.by_lines is not None
@@ -167,7 +167,8 @@ def take_further(kernel: Kernel, word: str, rest: str, place: str) -> None:
 
 
 def read_kernels(path: Path) -> list[Kernel]:
-    """`NAME: LINE ; LINE = COUNTS` of one turn, and below it, indented, what else there is of it."""
+    """`NAME: LINE ; LINE = COUNTS` of one turn, and below it, indented, what else there is of
+    it."""
     kernels: list[Kernel] = []
     for number, line in whole_lines(path.read_text(encoding="ascii")):
         place = f"{path.name}:{number}"

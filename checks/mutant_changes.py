@@ -1,4 +1,5 @@
-"""The changes that `mutants` draws: from the syntax tree for Python, from lists of patterns for shell and C. Each is a place in a file and what stands there instead."""
+"""The changes that `mutants` draws: from the syntax tree for Python, from lists of patterns for
+shell and C. Each is a place in a file and what stands there instead."""
 
 from __future__ import annotations
 
@@ -8,8 +9,14 @@ from dataclasses import dataclass
 from pathlib import Path
 from typing import Iterator
 
-COMPARED = {ast.Lt: "<=", ast.LtE: "<", ast.Gt: ">=", ast.GtE: ">", ast.Eq: "!=", ast.NotEq: "==", ast.In: "not in", ast.NotIn: "in", ast.Is: "is not", ast.IsNot: "is"}
-COMPUTED = {ast.Add: "-", ast.Sub: "+", ast.Mult: "//", ast.FloorDiv: "*", ast.Div: "*", ast.Mod: "*", ast.BitOr: "&", ast.BitAnd: "|", ast.LShift: ">>", ast.RShift: "<<"}
+COMPARED = {
+    ast.Lt: "<=", ast.LtE: "<", ast.Gt: ">=", ast.GtE: ">", ast.Eq: "!=", ast.NotEq: "==",
+    ast.In: "not in", ast.NotIn: "in", ast.Is: "is not", ast.IsNot: "is",
+}
+COMPUTED = {
+    ast.Add: "-", ast.Sub: "+", ast.Mult: "//", ast.FloorDiv: "*", ast.Div: "*", ast.Mod: "*",
+    ast.BitOr: "&", ast.BitAnd: "|", ast.LShift: ">>", ast.RShift: "<<",
+}
 
 
 PROSE = ("help", "description", "epilog", "metavar")  # what argparse tells, and no more
@@ -32,10 +39,14 @@ class Change:
 
     def told(self, content: bytes) -> str:
         old = content[self.begin : self.end].decode("utf-8", "replace")
-        return f"{self.file}:{self.line}: {self.kind}: {short(old)} -> {short(self.new) or '(nothing)'}"
+        return (
+            f"{self.file}:{self.line}: {self.kind}: {short(old)} -> "
+            f"{short(self.new) or '(nothing)'}"
+        )
 
     def named(self, content: bytes) -> str:
-        """What it is called in mutants.reasons: by the text of its line, since the line's number changes."""
+        """What it is called in mutants.reasons: by the text of its line, since the line's number
+        changes."""
         old = content[self.begin : self.end].decode("utf-8", "replace")
         line = content.splitlines()[self.line - 1].decode("utf-8", "replace")
         return f"{self.file}: {short(line)}: {short(old)} -> {short(self.new) or '(nothing)'}"
@@ -58,8 +69,14 @@ class _Python(ast.NodeVisitor):
         self.changes: list[Change] = []
 
     def at(self, node: ast.AST) -> tuple[int, int]:
-        assert isinstance(node, (ast.expr, ast.stmt)) and node.end_lineno is not None and node.end_col_offset is not None
-        return self.starts[node.lineno - 1] + node.col_offset, self.starts[node.end_lineno - 1] + node.end_col_offset
+        assert (
+            isinstance(node, (ast.expr, ast.stmt)) and node.end_lineno is not None
+            and node.end_col_offset is not None
+        )
+        return (
+            self.starts[node.lineno - 1] + node.col_offset,
+            self.starts[node.end_lineno - 1] + node.end_col_offset,
+        )
 
     def text(self, node: ast.AST) -> str:
         begin, end = self.at(node)
@@ -67,12 +84,15 @@ class _Python(ast.NodeVisitor):
 
     def add(self, kind: str, node: ast.AST, new: str) -> None:
         begin, end = self.at(node)
-        self.changes.append(Change(self.name, node.lineno, begin, end, new, kind))  # type: ignore[attr-defined]
+        line = node.lineno  # type: ignore[attr-defined]
+        self.changes.append(Change(self.name, line, begin, end, new, kind))
 
-    # What is not looked at: annotations, docstrings, imports, and the parts of f-strings, whose places are not told.
+    # What is not looked at: annotations, docstrings, imports, and the parts of f-strings, whose
+    # places are not told.
 
     def visit_Assign(self, node: ast.Assign) -> None:
-        if self.text(node.targets[0]) != "sys.dont_write_bytecode":  # which the copy's environment says anyway
+        # which the copy's environment says anyway
+        if self.text(node.targets[0]) != "sys.dont_write_bytecode":
             self.generic_visit(node)
 
     def visit_AnnAssign(self, node: ast.AnnAssign) -> None:
@@ -88,7 +108,12 @@ class _Python(ast.NodeVisitor):
         text, begin = self.text(node), self.at(node)[0]
         for found in WRAPPED.finditer(text):
             start = begin + len(text[: found.start()].encode())
-            self.changes.append(Change(self.name, node.lineno, start, start + len(found[0].encode()), "{" + found[2], "dropped wrapper"))
+            self.changes.append(
+                Change(
+                    self.name, node.lineno, start, start + len(found[0].encode()), "{" + found[2],
+                    "dropped wrapper",
+                )
+            )
 
     def visit_keyword(self, node: ast.keyword) -> None:
         if node.arg not in PROSE:
@@ -111,7 +136,10 @@ class _Python(ast.NodeVisitor):
         if len(node.ops) == 1:
             new = COMPARED.get(type(node.ops[0]))
             if new:
-                self.add("comparison", node, f"{self.text(node.left)} {new} {self.text(node.comparators[0])}")
+                self.add(
+                    "comparison", node,
+                    f"{self.text(node.left)} {new} {self.text(node.comparators[0])}",
+                )
         self.generic_visit(node)
 
     def visit_BinOp(self, node: ast.BinOp) -> None:
@@ -122,7 +150,10 @@ class _Python(ast.NodeVisitor):
 
     def visit_BoolOp(self, node: ast.BoolOp) -> None:
         word = " or " if isinstance(node.op, ast.And) else " and "
-        self.add("condition", node, "(" + word.join(f"({self.text(value)})" for value in node.values) + ")")
+        self.add(
+            "condition", node,
+            "(" + word.join(f"({self.text(value)})" for value in node.values) + ")",
+        )
         self.generic_visit(node)
 
     def visit_UnaryOp(self, node: ast.UnaryOp) -> None:
@@ -164,11 +195,24 @@ class _Python(ast.NodeVisitor):
 
     def visit_Call(self, node: ast.Call) -> None:
         is_symmetric = isinstance(node.func, ast.Name) and node.func.id in ("min", "max")
-        if len(node.args) >= 2 and not is_symmetric and not any(isinstance(each, ast.Starred) for each in node.args[:2]):
+        if (
+            len(node.args) >= 2 and not is_symmetric
+            and not any(isinstance(each, ast.Starred) for each in node.args[:2])
+        ):
             begin, end = self.at(node.args[0])[0], self.at(node.args[1])[1]
-            self.changes.append(Change(self.name, node.lineno, begin, end, f"{self.text(node.args[1])}, {self.text(node.args[0])}", "swapped arguments"))
-        is_conversion = isinstance(node.func, ast.Name) and node.func.id in ("str", "Path", "list", "tuple")
-        if len(node.args) == 1 and not node.keywords and not is_conversion and not isinstance(node.args[0], (ast.Starred, ast.GeneratorExp)):
+            self.changes.append(
+                Change(
+                    self.name, node.lineno, begin, end,
+                    f"{self.text(node.args[1])}, {self.text(node.args[0])}", "swapped arguments",
+                )
+            )
+        is_conversion = isinstance(node.func, ast.Name) and node.func.id in (
+            "str", "Path", "list", "tuple",
+        )
+        if (
+            len(node.args) == 1 and not node.keywords and not is_conversion
+            and not isinstance(node.args[0], (ast.Starred, ast.GeneratorExp))
+        ):
             self.add("dropped wrapper", node, f"({self.text(node.args[0])})")
         self.generic_visit(node)
 
@@ -176,31 +220,54 @@ class _Python(ast.NodeVisitor):
 def python_changes(name: str, content: bytes) -> list[Change]:
     visitor = _Python(name, content)
     visitor.visit(ast.parse(content))
-    return [change for change in visitor.changes if content[change.begin : change.end] != change.new.encode() and b'if __name__ == "__main__"' not in content[change.begin - 40 : change.end]]
+    return [
+        change for change in visitor.changes
+        if content[change.begin : change.end] != change.new.encode()
+        and b'if __name__ == "__main__"' not in content[change.begin - 40 : change.end]
+    ]
 
 
 # What is looked for in a line of shell, and what takes its place.
 SHELL = [
-    (r"\bexit [0-9]+", lambda found: "exit 0" if found[0] != "exit 0" else "exit 1", "status"), (r"\breturn [01]\b", lambda found: "return " + "10"[int(found[0][-1])], "status"),
-    (r"^\s*trap '.*", lambda found: ":", "trap"), (r"&&", lambda found: "||", "condition"), (r"\|\|", lambda found: "&&", "condition"), (r"\[ -z ", lambda found: "[ -n ", "condition"),
-    (r"\[ -n ", lambda found: "[ -z ", "condition"), (r"\[ ! ", lambda found: "[ ", "condition"), (r"\bif ! ", lambda found: "if ", "condition"), (r"(?<=\]) (?:==|=) ", lambda found: " != ", "condition"),
-    (r"\[ -[fx] ", lambda found: "[ -e ", "condition"), (r" -(?:gt|le) ", lambda found: " -ge ", "bound"), (r" -ge ", lambda found: " -gt ", "bound"),
-    (r"(?<=[=+ ])[0-9]+\b(?! ?[<>])", lambda found: str(int(found[0]) + 1), "bound"), (r" 2>/dev/null", lambda found: "", "escape"), (r" </dev/null", lambda found: "", "escape"),
-    (r'(?<!=)"\$[@a-z_]\w*"', lambda found: found[0].strip('"'), "escape"), (r" -- ", lambda found: " ", "escape"), (r"\bset -eu\b", lambda found: "set -u", "status"),
-    (r"\bexec ", lambda found: "", "status"), (r"^\s*(?:rm|mv|cp|ln|chmod|mkdir|shift|strip|gzip) .*[^\\]$", lambda found: ":", "dropped command"),
+    (r"\bexit [0-9]+", lambda found: "exit 0" if found[0] != "exit 0" else "exit 1", "status"),
+    (r"\breturn [01]\b", lambda found: "return " + "10"[int(found[0][-1])], "status"),
+    (r"^\s*trap '.*", lambda found: ":", "trap"), (r"&&", lambda found: "||", "condition"),
+    (r"\|\|", lambda found: "&&", "condition"), (r"\[ -z ", lambda found: "[ -n ", "condition"),
+    (r"\[ -n ", lambda found: "[ -z ", "condition"), (r"\[ ! ", lambda found: "[ ", "condition"),
+    (r"\bif ! ", lambda found: "if ", "condition"),
+    (r"(?<=\]) (?:==|=) ", lambda found: " != ", "condition"),
+    (r"\[ -[fx] ", lambda found: "[ -e ", "condition"),
+    (r" -(?:gt|le) ", lambda found: " -ge ", "bound"), (r" -ge ", lambda found: " -gt ", "bound"),
+    (r"(?<=[=+ ])[0-9]+\b(?! ?[<>])", lambda found: str(int(found[0]) + 1), "bound"),
+    (r" 2>/dev/null", lambda found: "", "escape"), (r" </dev/null", lambda found: "", "escape"),
+    (r'(?<!=)"\$[@a-z_]\w*"', lambda found: found[0].strip('"'), "escape"),
+    (r" -- ", lambda found: " ", "escape"), (r"\bset -eu\b", lambda found: "set -u", "status"),
+    (r"\bexec ", lambda found: "", "status"),
+    (
+        r"^\s*(?:rm|mv|cp|ln|chmod|mkdir|shift|strip|gzip) .*[^\\]$", lambda found: ":",
+        "dropped command",
+    ),
 ]
 CODE = [
-    (r"(?<![<>=!-])<(?![<=])(?= )", lambda found: "<=", "bound"), (r"<=(?= )", lambda found: "<", "bound"), (r"(?<![<>=!-])>(?![>=])(?= )", lambda found: ">=", "bound"),
-    (r">=(?= )", lambda found: ">", "bound"), (r" == ", lambda found: " != ", "condition"), (r" != ", lambda found: " == ", "condition"), (r" &&(?= |$)", lambda found: " ||", "condition"),
-    (r" \|\|(?= |$)", lambda found: " &&", "condition"), (r"(?<=[(=+\- ])[0-9]+\b(?![.x])", lambda found: str(int(found[0]) + 1), "constant"), (r"\bPAPI_E[A-Z]+\b(?!_)", lambda found: "PAPI_OK", "status"),
-    (r"^\s*(?:pthread_mutex_(?:un)?lock|free|kl_\w+)\(.*\);$", lambda found: ";", "dropped call"), (r"(?<=[(&| ])!(?=\w)", lambda found: "", "condition"), (r" \+ 1\b", lambda found: "", "bound"),
+    (r"(?<![<>=!-])<(?![<=])(?= )", lambda found: "<=", "bound"),
+    (r"<=(?= )", lambda found: "<", "bound"),
+    (r"(?<![<>=!-])>(?![>=])(?= )", lambda found: ">=", "bound"),
+    (r">=(?= )", lambda found: ">", "bound"), (r" == ", lambda found: " != ", "condition"),
+    (r" != ", lambda found: " == ", "condition"), (r" &&(?= |$)", lambda found: " ||", "condition"),
+    (r" \|\|(?= |$)", lambda found: " &&", "condition"),
+    (r"(?<=[(=+\- ])[0-9]+\b(?![.x])", lambda found: str(int(found[0]) + 1), "constant"),
+    (r"\bPAPI_E[A-Z]+\b(?!_)", lambda found: "PAPI_OK", "status"),
+    (r"^\s*(?:pthread_mutex_(?:un)?lock|free|kl_\w+)\(.*\);$", lambda found: ";", "dropped call"),
+    (r"(?<=[(&| ])!(?=\w)", lambda found: "", "condition"), (r" \+ 1\b", lambda found: "", "bound"),
     (r" - 1\b", lambda found: "", "bound"),
 ]
 
 
 def _without_comments(content: bytes) -> bytes:
     """A source of C with signs in place of its comments, so that nothing in them is changed."""
-    return re.sub(rb"/\*.*?\*/", lambda found: re.sub(rb"[^\n]", b"\xff", found[0]), content, flags=re.DOTALL)
+    return re.sub(
+        rb"/\*.*?\*/", lambda found: re.sub(rb"[^\n]", b"\xff", found[0]), content, flags=re.DOTALL
+    )
 
 
 def _by_patterns(name: str, content: bytes, patterns: list, comment: str) -> Iterator[Change]:
@@ -211,7 +278,9 @@ def _by_patterns(name: str, content: bytes, patterns: list, comment: str) -> Ite
             code = re.split(r"\s" + comment, line.rstrip("\n"))[0]
             for pattern, new, kind in patterns:
                 for found in re.finditer(pattern, code):
-                    yield Change(name, number, start + found.start(), start + found.end(), new(found), kind)
+                    yield Change(
+                        name, number, start + found.start(), start + found.end(), new(found), kind
+                    )
         start += len(raw)
 
 

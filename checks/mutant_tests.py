@@ -1,8 +1,10 @@
 #!/usr/bin/env python3
-"""Runs tests in a copy of the repository for `mutants`, at the top of the folder with the tests: mutant_tests.py RESULT SEEN NAME..
+"""Runs tests in a copy of the repository for `mutants`, at the top of the folder with the tests:
+mutant_tests.py RESULT SEEN NAME..
 
-A name is a module's or a test's. With a folder SEEN all are run, and what each test runs of the instrumented files is written there (seen_lines.py). Without (`-`) the
-first that fails is the end. RESULT gets a line for each test: how it ended, its seconds of a processor and its name."""
+A name is a module's or a test's. With a folder SEEN all are run, and what each test runs of the
+instrumented files is written there (seen_lines.py). Without (`-`) the first that fails is the end.
+RESULT gets a line for each test: how it ended, its seconds of a processor and its name."""
 
 from __future__ import annotations
 
@@ -22,7 +24,8 @@ def each_of(tests: unittest.TestSuite) -> Iterator[unittest.TestCase]:
 
 
 def processor_seconds() -> float:
-    """What this process took, with all that it has started. The time of day says more of the other work on the machine."""
+    """What this process took, with all that it has started. The time of day says more of the other
+    work on the machine."""
     return sum(os.times()[:4])
 
 
@@ -46,9 +49,15 @@ class Watched(unittest.TestResult):
         print(how, f"{seconds:.3f}", test.id(), sep="\t", file=self.result, flush=True)
 
     def stopTest(self, test: unittest.TestCase) -> None:
-        failed = any(case is test or getattr(case, "test_case", None) is test for case, _ in (*self.failures, *self.errors))
+        failed = any(
+            case is test or getattr(case, "test_case", None) is test
+            for case, _ in (*self.failures, *self.errors)
+        )
         skipped = any(case is test for case, _ in self.skipped)
-        self.tell("failed" if failed else "skipped" if skipped else "passed", test, processor_seconds() - self.begun)
+        self.tell(
+            "failed" if failed else "skipped" if skipped else "passed", test,
+            processor_seconds() - self.begun,
+        )
         super().stopTest(test)
 
 

@@ -1,4 +1,5 @@
-"""The files that a tool of the program reads, as files that are no plain files, and as several that are at fault."""
+"""The files that a tool of the program reads, as files that are no plain files, and as several that
+are at fault."""
 
 from __future__ import annotations
 
@@ -13,14 +14,17 @@ from dataclasses import dataclass, replace
 from pathlib import Path
 from typing import Callable, Iterator
 
-from running import BAD_WORDS, EXAMPLE_OF, EXAMPLES, NO, READ_FAULT, REFUSED, Example, Program, Run, Tally, differs
+from running import (
+    BAD_WORDS, EXAMPLE_OF, EXAMPLES, NO, READ_FAULT, REFUSED, Example, Program, Run, Tally, differs,
+)
 
 NOBODY = 65534
 TABLE_LIMIT = 1_048_576
 SCRIPT_LIMIT = 8_388_608
 STREAM_LIMIT = 67_108_864
 
-# What the examples of the tools that run a script give over a stream that breaks off before its first occurrence, as FORMATS says of `run`.
+# What the examples of the tools that run a script give over a stream that breaks off before its
+# first occurrence, as FORMATS says of `run`.
 BROKEN_OFF = {
     "papi_run": b"""1 0 create PAPI_OK 0
 2 0 add PAPI_OK
@@ -46,7 +50,8 @@ OPTIONS = {"-U": "unit file", "-P": "preset file", "-M": "map file"}
 
 @dataclass(frozen=True)
 class Place:
-    """A file of an example: the tool that reads it, the word that names it, and what kind of file it is."""
+    """A file of an example: the tool that reads it, the word that names it, and what kind of file
+    it is."""
 
     example: Example
     index: int
@@ -73,7 +78,8 @@ def places(example: Example) -> Iterator[Place]:
 
 @contextmanager
 def written_by(path: Path, pieces: list[bytes]) -> Iterator[None]:
-    """A fifo with a writer that gives these pieces and goes. It waits until the program opens the fifo."""
+    """A fifo with a writer that gives these pieces and goes. It waits until the program opens the
+    fifo."""
     os.mkfifo(path)
     done = threading.Event()
 
@@ -106,7 +112,10 @@ def written_by(path: Path, pieces: list[bytes]) -> Iterator[None]:
 
 def padded(content: bytes, size: int) -> bytes:
     """A file of this size in which comment lines follow the content."""
-    return content + (b"#" * 99 + b"\n") * ((size - len(content)) // 100) + b"#" * ((size - len(content)) % 100)
+    return (
+        content + (b"#" * 99 + b"\n") * ((size - len(content)) // 100)
+        + b"#" * ((size - len(content)) % 100)
+    )
 
 
 # What a place answers: the run that is wanted of a name there.
@@ -133,7 +142,9 @@ def not_read(program: Program, folder: Path, place: Place, name: str) -> Run:
 
 def endless(program: Program, folder: Path, place: Place, name: str) -> Run:
     if place.role == "stream":
-        return Run(REFUSED, BROKEN_OFF[place.example.words[0]], b"papi: stream 0: line 1: line too long\n")
+        return Run(
+            REFUSED, BROKEN_OFF[place.example.words[0]], b"papi: stream 0: line 1: line too long\n"
+        )
     return Run(REFUSED, b"", f"papi: {name}: too large\n".encode())
 
 
@@ -227,20 +238,37 @@ KINDS = [
     Kind("a link to itself", "it", link_to("it"), not_opened),
     Kind("a name of 300 letters", "x" * 300, no_file, not_opened),
     Kind("a file without permission", "it", closed_file, not_opened, as_nobody=True),
-    Kind("a file in a folder without permission", "shut/it", closed_folder, not_opened, as_nobody=True),
+    Kind(
+        "a file in a folder without permission", "shut/it", closed_folder, not_opened,
+        as_nobody=True,
+    ),
     Kind("a name that is not UTF-8", b"\xff\xfe", no_file, bad_words),
     Kind("a directory", "it", lambda folder, place: (folder / "it").mkdir(), not_read),
     Kind("a file whose first read fails", "/proc/self/mem", no_file, not_read),
     Kind("a device without an end", "/dev/zero", no_file, endless),
     Kind("a device without content", "/dev/null", no_file, as_file_of(nothing)),
-    Kind("a link to a plain file", "ln", lambda folder, place: (plain(folder, place), (folder / "ln").symlink_to("it")), as_ample),
+    Kind(
+        "a link to a plain file", "ln",
+        lambda folder, place: (plain(folder, place), (folder / "ln").symlink_to("it")), as_ample,
+    ),
     Kind("a file of its limit", "it", at_limit, as_ample, not_for=("stream",)),
     Kind("a file one byte above its limit", "it", over_limit, endless, not_for=("stream",)),
-    Kind("a file above its limit that is bad", "it", over_limit_and_bad, endless, not_for=("stream",)),
+    Kind(
+        "a file above its limit that is bad", "it", over_limit_and_bad, endless, not_for=("stream",)
+    ),
     Kind("a fifo", "it", no_file, as_ample, pieces=lambda content: [content]),
-    Kind("a fifo, byte by byte", "it", no_file, as_ample, pieces=lambda content: [bytes([byte]) for byte in content]),
-    Kind("a fifo whose writer goes early", "it", no_file, as_file_of(half), pieces=lambda content: [half(content)]),
-    Kind("a fifo whose writer gives nothing", "it", no_file, as_file_of(nothing), pieces=lambda content: []),
+    Kind(
+        "a fifo, byte by byte", "it", no_file, as_ample,
+        pieces=lambda content: [bytes([byte]) for byte in content],
+    ),
+    Kind(
+        "a fifo whose writer goes early", "it", no_file, as_file_of(half),
+        pieces=lambda content: [half(content)],
+    ),
+    Kind(
+        "a fifo whose writer gives nothing", "it", no_file, as_file_of(nothing),
+        pieces=lambda content: [],
+    ),
 ]
 
 
@@ -259,7 +287,10 @@ def check_kind(tally: Tally, program: Program, kind: Kind, place: Place) -> None
         copy_examples(folder)
         wanted = kind.answer(program, folder, place, name)
         kind.make(folder, place)
-        how = {"user": NOBODY, "group": NOBODY, "extra_groups": []} if kind.as_nobody and os.geteuid() == 0 else {}
+        how = (
+            {"user": NOBODY, "group": NOBODY, "extra_groups": []}
+            if kind.as_nobody and os.geteuid() == 0 else {}
+        )
         if kind.pieces:
             with written_by(folder / "it", kind.pieces(place.content)):
                 run = program.run(place.words_with(kind.name), folder, **how)
@@ -279,7 +310,9 @@ def can_be_nobody(program: Program) -> bool:
         with tempfile.TemporaryDirectory() as made:
             copy_examples(Path(made))
             example = Example.named(EXAMPLE_OF["papi_run"])
-            run = program.run(list(example.words), Path(made), user=NOBODY, group=NOBODY, extra_groups=[])
+            run = program.run(
+                list(example.words), Path(made), user=NOBODY, group=NOBODY, extra_groups=[]
+            )
             return run == example.wanted
     except OSError:
         return False
@@ -327,39 +360,101 @@ RUN_THREADS = "papi_run -U lab.unit --notes threads.script"
 REGIONS_OF = "papi_regions --events INST_RETIRED,CYCLES -U"
 REFUSED_REGIONS = "papi_regions --events INST_RETIRED,PACKETS -U lab.unit regions.script"
 SEVERAL = [
-    Several("the unit file before the script", "papi_run -U no folder", refused("papi: no such file: no\n")),
-    Several("the unit file before the presets", "papi_run -U folder -P no -C lab1 first.script", refused("papi: cannot read: folder\n", READ_FAULT)),
-    Several("a unit file too large, no script", "papi_run -U /dev/zero no", refused("papi: /dev/zero: too large\n")),
-    Several("a bad unit file, no presets", "papi_run -U bad.unit -P no -C lab1 no", refused("papi: bad.unit: row 1: bad row\n")),
-    Several("bad presets, no script", "papi_run -U lab.unit -P bad.presets -C lab1 no", refused("papi: bad.presets: row 1: preset before cpu\n")),
-    Several("a bad script, no stream", "papi_run -U lab.unit bad.script no", refused("papi: bad.script: line 1: unknown call\n")),
-    Several("the second stream is not opened, the first not read", "papi_run -U lab.unit first.script folder no", refused("papi: no such file: no\n")),
-    Several("bad words before all files", "papi_run -U no --workers 65 no", refused(BAD_WORDS.decode())),
-    Several("the first stream fails", f"{RUN_THREADS} folder threads.1.stream", refused("papi: stream 0: read failed\n", READ_FAULT, THREAD_0_BROKEN)),
+    Several(
+        "the unit file before the script", "papi_run -U no folder",
+        refused("papi: no such file: no\n"),
+    ),
+    Several(
+        "the unit file before the presets", "papi_run -U folder -P no -C lab1 first.script",
+        refused("papi: cannot read: folder\n", READ_FAULT),
+    ),
+    Several(
+        "a unit file too large, no script", "papi_run -U /dev/zero no",
+        refused("papi: /dev/zero: too large\n"),
+    ),
+    Several(
+        "a bad unit file, no presets", "papi_run -U bad.unit -P no -C lab1 no",
+        refused("papi: bad.unit: row 1: bad row\n"),
+    ),
+    Several(
+        "bad presets, no script", "papi_run -U lab.unit -P bad.presets -C lab1 no",
+        refused("papi: bad.presets: row 1: preset before cpu\n"),
+    ),
+    Several(
+        "a bad script, no stream", "papi_run -U lab.unit bad.script no",
+        refused("papi: bad.script: line 1: unknown call\n"),
+    ),
+    Several(
+        "the second stream is not opened, the first not read",
+        "papi_run -U lab.unit first.script folder no", refused("papi: no such file: no\n"),
+    ),
+    Several(
+        "bad words before all files", "papi_run -U no --workers 65 no", refused(BAD_WORDS.decode())
+    ),
+    Several(
+        "the first stream fails", f"{RUN_THREADS} folder threads.1.stream",
+        refused("papi: stream 0: read failed\n", READ_FAULT, THREAD_0_BROKEN),
+    ),
     Several(
         "both streams fail",
         f"{RUN_THREADS} --workers 2 folder folder",
-        refused("papi: stream 0: read failed\npapi: stream 1: read failed\n", READ_FAULT, BOTH_BROKEN),
+        refused(
+            "papi: stream 0: read failed\npapi: stream 1: read failed\n", READ_FAULT, BOTH_BROKEN
+        ),
     ),
     Several(
         "a stream fails and one is bad",
         f"{RUN_THREADS} bad.stream folder",
-        refused("papi: stream 0: line 1: wrong number of fields\npapi: stream 1: read failed\n", READ_FAULT, BOTH_BROKEN),
+        refused(
+            "papi: stream 0: line 1: wrong number of fields\npapi: stream 1: read failed\n",
+            READ_FAULT, BOTH_BROKEN,
+        ),
     ),
-    Several("the unit file before the region script", f"{REGIONS_OF} no.unit no", refused("papi: no such file: no.unit\n")),
-    Several("a bad region script, no stream", f"{REGIONS_OF} lab.unit regions_wrong.script no", refused("papi: regions_wrong.script: line 3: wrong region\n")),
-    Several("a region that is not ended, no stream", f"{REGIONS_OF} lab.unit open.script no", refused("papi: open.script: line 2: region not ended\n")),
-    Several("the stream of regions that is not opened", f"{REGIONS_OF} lab.unit regions.script no", refused("papi: no such file: no\n")),
-    Several("the events of regions before the stream is read", f"{REFUSED_REGIONS} folder", Run(NO, b"PACKETS: PAPI_EINVAL\n", b"")),
-    Several("the stream of regions is opened before the events are looked up", f"{REFUSED_REGIONS} no", refused("papi: no such file: no\n")),
+    Several(
+        "the unit file before the region script", f"{REGIONS_OF} no.unit no",
+        refused("papi: no such file: no.unit\n"),
+    ),
+    Several(
+        "a bad region script, no stream", f"{REGIONS_OF} lab.unit regions_wrong.script no",
+        refused("papi: regions_wrong.script: line 3: wrong region\n"),
+    ),
+    Several(
+        "a region that is not ended, no stream", f"{REGIONS_OF} lab.unit open.script no",
+        refused("papi: open.script: line 2: region not ended\n"),
+    ),
+    Several(
+        "the stream of regions that is not opened", f"{REGIONS_OF} lab.unit regions.script no",
+        refused("papi: no such file: no\n"),
+    ),
+    Several(
+        "the events of regions before the stream is read", f"{REFUSED_REGIONS} folder",
+        Run(NO, b"PACKETS: PAPI_EINVAL\n", b""),
+    ),
+    Several(
+        "the stream of regions is opened before the events are looked up", f"{REFUSED_REGIONS} no",
+        refused("papi: no such file: no\n"),
+    ),
     Several(
         "the stream of regions is bad at its second line",
         f"{REGIONS_OF} lab.unit regions.script half.stream",
-        refused("papi: stream 0: line 2: bad field\n", out="5 0 inner 0 0\n0 outer 1 3 0\n0 inner 2 0 0\n"),
+        refused(
+            "papi: stream 0: line 2: bad field\n",
+            out="5 0 inner 0 0\n0 outer 1 3 0\n0 inner 2 0 0\n",
+        ),
     ),
-    Several("a stream that no run asks for", "papi_run -U lab.unit conflict.script folder", Example.named("conflict").wanted),
-    Several("one file as both streams", "papi_run -U lab.unit first.script first.stream first.stream", Example.named("first").wanted),
-    Several("more streams than a thread has runs", "papi_run -U lab.unit first.script first.stream" + " folder" * 63, Example.named("first").wanted),
+    Several(
+        "a stream that no run asks for", "papi_run -U lab.unit conflict.script folder",
+        Example.named("conflict").wanted,
+    ),
+    Several(
+        "one file as both streams", "papi_run -U lab.unit first.script first.stream first.stream",
+        Example.named("first").wanted,
+    ),
+    Several(
+        "more streams than a thread has runs",
+        "papi_run -U lab.unit first.script first.stream" + " folder" * 63,
+        Example.named("first").wanted,
+    ),
 ]
 
 
@@ -368,21 +463,33 @@ DESCRIPTORS = 6
 
 def check_descriptors(tally: Tally, program: Program, folder: Path) -> None:
     """A process that may have no more than six descriptors opens three streams at a time."""
-    for streams, wanted in ((3, Example.named("first").wanted), (4, refused("papi: cannot read: first.stream\n", READ_FAULT))):
+    for streams, wanted in (
+        (3, Example.named("first").wanted),
+        (4, refused("papi: cannot read: first.stream\n", READ_FAULT)),
+    ):
         words = ["papi_run", "-U", "lab.unit", "first.script"] + ["first.stream"] * streams
-        run = program.run(words, folder, preexec_fn=lambda: resource.setrlimit(resource.RLIMIT_NOFILE, (DESCRIPTORS, DESCRIPTORS)))
+        run = program.run(
+            words,
+            folder,
+            preexec_fn=lambda: resource.setrlimit(
+                resource.RLIMIT_NOFILE, (DESCRIPTORS, DESCRIPTORS)
+            ),
+        )
         tally.judge(f"{streams} streams with {DESCRIPTORS} descriptors", differs(run, wanted))
 
 
 def check_long_stream(tally: Tally, program: Program, folder: Path) -> None:
-    """A stream of comment lines up to its limit, with a newline behind it, and one byte above it, of which a run asks for more occurrences than there are."""
+    """A stream of comment lines up to its limit, with a newline behind it, and one byte above it,
+    of which a run asks for more occurrences than there are."""
     example = Example.named("first")
     content = (EXAMPLES / "first.stream").read_bytes()
     words = [word.replace("first.stream", "long.stream") for word in example.words]
     (folder / "long.stream").write_bytes(padded(content, STREAM_LIMIT))
     tally.judge("a stream of its limit", differs(program.run(words, folder), example.wanted))
     (folder / "long.stream").write_bytes(padded(content, STREAM_LIMIT) + b"\n")
-    tally.judge("a stream of its limit and a newline", differs(program.run(words, folder), example.wanted))
+    tally.judge(
+        "a stream of its limit and a newline", differs(program.run(words, folder), example.wanted)
+    )
     (folder / "long.stream").write_bytes(padded(content, STREAM_LIMIT + 1))
     lines = content.count(b"\n") + (STREAM_LIMIT - len(content)) // 100 + 1
     out = example.wanted.out.replace(b"4 0 run PAPI_OK 2 0", b"4 0 run PAPI_ESYS 2 0")
@@ -403,7 +510,9 @@ def check_several(tally: Tally, program: Program, tools: list[str]) -> None:
         (folder / "open.script").write_text("0 begin a\n")
         for case in SEVERAL:
             if case.words.split()[0] in tools:
-                tally.judge(case.said, differs(program.run(case.words.split(), folder), case.wanted))
+                tally.judge(
+                    case.said, differs(program.run(case.words.split(), folder), case.wanted)
+                )
         if "papi_run" not in tools:
             return
         check_descriptors(tally, program, folder)

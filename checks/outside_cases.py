@@ -1,4 +1,5 @@
-"""What `outside` draws: the programs around the proved one with a sound call each, and what is made odd about a call."""
+"""What `outside` draws: the programs around the proved one with a sound call each, and what is made
+odd about a call."""
 
 from __future__ import annotations
 
@@ -36,27 +37,39 @@ except (kistalub.PapiError, OSError, ImportError, ValueError, IndexError) as err
     os._exit(1)
 """
 COUNTS = {
-    "format": "kistalub-counts", "version": 1, "command": ["x"], "unit": {"name": "u", "sha256": "0"}, "presets": None, "cpu": None, "machine": {},
-    "tool": {"kistalub": "1", "valgrind": "3"}, "events": ["A"], "functions_counted": [], "ended": {"status": 0}, "total": {"A": 100},
+    "format": "kistalub-counts", "version": 1, "command": ["x"],
+    "unit": {"name": "u", "sha256": "0"}, "presets": None, "cpu": None, "machine": {},
+    "tool": {"kistalub": "1", "valgrind": "3"}, "events": ["A"], "functions_counted": [],
+    "ended": {"status": 0}, "total": {"A": 100},
     "processes": [], "uncounted_children": 0,
 }
 COUNTED = {
-    "papi_version": "7", "cpu_info": "x", "event_definitions": {"A": {"component": "cpu", "type": "delta"}},
-    "threads": {"0": {"regions": {"0": {"name": "main", "parent_region_id": "-1", "A": "7"}, "1": {"name": "in", "parent_region_id": "0", "A": "2"}}}},
+    "papi_version": "7", "cpu_info": "x",
+    "event_definitions": {"A": {"component": "cpu", "type": "delta"}},
+    "threads": {
+        "0": {
+            "regions": {
+                "0": {"name": "main", "parent_region_id": "-1", "A": "7"},
+                "1": {"name": "in", "parent_region_id": "0", "A": "2"},
+            }
+        }
+    },
 }
 PROGRAM = "int main(void) { return 0; }\n"
 
 
 @dataclass(frozen=True)
 class Sound:
-    """A call that is as it should be. Words that are names of files in the folder may be made odd; `{tree}` in one is the copy of the repository."""
+    """A call that is as it should be. Words that are names of files in the folder may be made odd;
+    `{tree}` in one is the copy of the repository."""
 
     name: str
     command: tuple[str, ...]
     words: tuple[str, ...] = ()
     text: str = ""
     statuses: tuple[int, ...] = (0, 1, 2, 3)
-    own_tree: str = ""  # a file of the repository that may be made odd, for which the call has a copy of its own
+    # a file of the repository that may be made odd, for which the call has a copy of its own
+    own_tree: str = ""
     weight: int = 4
     prints: bool = True
     made: tuple[str, ...] = ()  # files that it may leave
@@ -71,11 +84,17 @@ PRESETS = ("-P", "lab.presets", "-C", "lab2")
 
 
 def _tool(name: str, *words: str, **more: object) -> Sound:
-    return Sound(f"tools/{name}", (f"{{tree}}/tools/{name}",), words, takes_signals=name != "make_deb", **more)  # type: ignore[arg-type]
+    return Sound(
+        f"tools/{name}", (f"{{tree}}/tools/{name}",), words,
+        takes_signals=name != "make_deb", **more,  # type: ignore[arg-type]
+    )
 
 
 def _script(name: str, *words: str, **more: object) -> Sound:
-    return Sound(f"bin/{name}", (f"{{tree}}/bin/{name}",), words, statuses=BIN, heavy=True, **more)  # type: ignore[arg-type]
+    return Sound(
+        f"bin/{name}", (f"{{tree}}/bin/{name}",), words,
+        statuses=BIN, heavy=True, **more,  # type: ignore[arg-type]
+    )
 
 
 SOUND = [
@@ -92,18 +111,29 @@ SOUND = [
     _tool("make_unit", "wsm", "--events", "perf.json", weight=6),
     _tool("conflict", *LAB, *PRESETS, "CYCLES", "PAPI_BR_INS", "BR_MISP", weight=5, heavy=True),
     _tool("report", *LAB, "first.script", "first.stream", weight=6, heavy=True),
-    _tool("report", *LAB, *PRESETS, "-o", "page.html", "--regions", "regions.script", "--events", "CYCLES,BR_INST", "first.script", "first.stream",
-          prints=False, made=("page.html",), weight=6, heavy=True),
+    _tool(
+        "report", *LAB, *PRESETS, "-o", "page.html", "--regions", "regions.script", "--events",
+        "CYCLES,BR_INST", "first.script", "first.stream", prints=False, made=("page.html",),
+        weight=6, heavy=True,
+    ),
     _tool("make_deb", "--nothing", weight=2, prints=False),
-    Sound("tools/compile_unproved", ("env", "KISTALUB_COMPILE=0", "{tree}/tools/compile_unproved"),
-          ("program", "--kept"), statuses=(0, 1, 2, 3, 127), own_tree="crates.txt", weight=2,
-          prints=False, takes_signals=True),
-    _tool("record", "-o", "made.stream", "./program", weight=1, prints=False, made=("made.stream",), heavy=True, statuses=(0, 1, 2, 3)),
+    Sound(
+        "tools/compile_unproved", ("env", "KISTALUB_COMPILE=0", "{tree}/tools/compile_unproved"),
+        ("program", "--kept"), statuses=(0, 1, 2, 3, 127), own_tree="crates.txt", weight=2,
+        prints=False, takes_signals=True,
+    ),
+    _tool(
+        "record", "-o", "made.stream", "./program", weight=1, prints=False, made=("made.stream",),
+        heavy=True, statuses=(0, 1, 2, 3),
+    ),
     _tool("count", "./program", weight=1, prints=False, heavy=True, statuses=tuple(range(0, 128))),
     _tool("compare", "--limit", "2%", "base.json", "new.json", weight=6),
     _tool("compare", "--markdown", "regions.json", "regions.json", weight=6),
     _script("papi_run", *LAB, "--notes", "first.script", "first.stream", weight=8),
-    _script("papi_run", *LAB, *PRESETS, "--workers", "2", "first.script", "first.stream", "first.stream", weight=4),
+    _script(
+        "papi_run", *LAB, *PRESETS, "--workers", "2", "first.script", "first.stream",
+        "first.stream", weight=4,
+    ),
     _script("papi_avail", *LAB, *PRESETS, "-a"),
     _script("papi_native_avail", *LAB),
     _script("papi_encode", *LAB, "lab::CYCLES", "NO_SUCH", weight=6),
@@ -115,8 +145,14 @@ SOUND = [
     _script("papi", "--help", weight=2),
     _script("papi", "--version", weight=2),
     _script("install", "--nothing", weight=2, prints=False),
-    Sound("completions/candidates", ("{tree}/completions/candidates", "{tree}/bin/papi_avail"), (*LAB, *PRESETS, "-e", ""), statuses=(0, 1, 2, 3), prints=False, weight=6, heavy=True),
-    Sound("python", (sys.executable, "-B", "-c", FIRST), ("lab.unit", "first.stream"), statuses=(0, 1), weight=4, prints=False, heavy=True, may_be_ended=False),
+    Sound(
+        "completions/candidates", ("{tree}/completions/candidates", "{tree}/bin/papi_avail"),
+        (*LAB, *PRESETS, "-e", ""), statuses=(0, 1, 2, 3), prints=False, weight=6, heavy=True,
+    ),
+    Sound(
+        "python", (sys.executable, "-B", "-c", FIRST), ("lab.unit", "first.stream"),
+        statuses=(0, 1), weight=4, prints=False, heavy=True, may_be_ended=False,
+    ),
 ]
 FILES = ("lab.unit", "lab.presets", "first.script", "first.stream", "regions.script", "profil.map")
 
@@ -143,7 +179,8 @@ class Call:
     text: bytes
     environment: dict[str, str]
     odd: list[str] = field(default_factory=list)
-    ends: dict[int, str] = field(default_factory=dict)  # what the descriptors 0 to 2 are: closed, full, or an input alone
+    # what the descriptors 0 to 2 are: closed, full, or an input alone
+    ends: dict[int, str] = field(default_factory=dict)
     file_limit: int | None = None
     in_deleted: bool = False
     waits: bool = False  # for a fifo that nobody writes
@@ -172,7 +209,16 @@ def _changed(rng: Random, content: bytes) -> bytes:
     if change == 4:
         return content[:place] + b"9" * rng.choice([20, 400, 5000]) + content[place:]
     if change == 5:
-        return content[:place] + rng.choice([b"\xff", b"\0", b"\r", b"\x1b[2J", b"\xe2\x80\xae", b"\xef\xbb\xbf", b"$(id)", b"'\"<&>", b"-", b",,", b": "]) + content[place:]
+        return (
+            content[:place]
+            + rng.choice(
+                [
+                    b"\xff", b"\0", b"\r", b"\x1b[2J", b"\xe2\x80\xae", b"\xef\xbb\xbf", b"$(id)",
+                    b"'\"<&>", b"-", b",,", b": ",
+                ]
+            )
+            + content[place:]
+        )
     if change == 6:
         del lines[number]
     elif change == 7:
@@ -180,25 +226,41 @@ def _changed(rng: Random, content: bytes) -> bytes:
     elif change == 8:
         rng.shuffle(lines)
     elif change == 9:
-        lines[number] = b" ".join(rng.sample(lines[number].split(b" "), len(lines[number].split(b" "))))
+        lines[number] = b" ".join(
+            rng.sample(lines[number].split(b" "), len(lines[number].split(b" ")))
+        )
     elif change == 10:
-        return rng.choice([b"[" * 100_000, b"{" * 50_000, b"(" * 100_000, content * 50, b"\n" * 10_000, b"a" * 300_000])
+        return rng.choice(
+            [
+                b"[" * 100_000, b"{" * 50_000, b"(" * 100_000, content * 50, b"\n" * 10_000,
+                b"a" * 300_000,
+            ]
+        )
     else:
-        lines[number] = lines[number].replace(b",", b"", 1) if rng.randrange(2) else lines[number] + b"," + _bytes(rng, 5)
+        lines[number] = (
+            lines[number].replace(b",", b"", 1) if rng.randrange(2)
+            else lines[number] + b"," + _bytes(rng, 5)
+        )
     return b"\n".join(lines)
 
 
 def _files(call: Call) -> list[int]:
     """The places of the words that name files of the folder."""
     there = set(os.listdir(call.folder))
-    return [place for place, word in enumerate(call.words) if word in there and (call.folder / str(word)).is_file() and not (call.folder / str(word)).is_symlink()]
+    return [
+        place for place, word in enumerate(call.words) if word in there
+        and (call.folder / str(word)).is_file() and not (call.folder / str(word)).is_symlink()
+    ]
 
 
 def _odd_file(rng: Random, call: Call) -> None:
     """One of the files that the call names, or of the repository, is something else."""
     names = [str(call.words[place]) for place in _files(call)]
     own = call.tree / call.sound.own_tree
-    if call.sound.own_tree and own.is_file() and not own.is_symlink() and (not names or rng.randrange(2)):
+    if (
+        call.sound.own_tree and own.is_file() and not own.is_symlink()
+        and (not names or rng.randrange(2))
+    ):
         path = own
     elif names:
         path = call.folder / rng.choice(names)
@@ -223,7 +285,8 @@ def _odd_file(rng: Random, call: Call) -> None:
         path.symlink_to(rng.choice(["/dev/zero", "/dev/null", "/dev/full", "/proc/self/mem"]))
     elif kind == 5:
         path.symlink_to("/nowhere/at/all")
-    call.odd.append(f"{path.name} is {('absent', 'a folder', 'a link to itself', 'a fifo', 'a device', 'a link to nothing')[kind]}")
+    kinds = ("absent", "a folder", "a link to itself", "a fifo", "a device", "a link to nothing")
+    call.odd.append(f"{path.name} is {kinds[kind]}")
 
 
 def _odd_name(rng: Random, call: Call) -> None:
@@ -232,8 +295,16 @@ def _odd_name(rng: Random, call: Call) -> None:
     if not places:
         return _odd_words(rng, call)
     place = rng.choice(places)
-    name = rng.choice([b"\xff\xfe", b"a b", b"new\nline", b"-x", b"x" * 255, b"$(id)", b"'q\"", "ö\u2028".encode(), b"~", b"%t", b"a=b", b"\x1b[2J", b"stream 0", b"x:y"])
-    shutil.copy(os.fsencode(call.folder / str(call.words[place])), os.path.join(os.fsencode(call.folder), name))
+    name = rng.choice(
+        [
+            b"\xff\xfe", b"a b", b"new\nline", b"-x", b"x" * 255, b"$(id)", b"'q\"",
+            "ö\u2028".encode(), b"~", b"%t", b"a=b", b"\x1b[2J", b"stream 0", b"x:y",
+        ]
+    )
+    shutil.copy(
+        os.fsencode(call.folder / str(call.words[place])),
+        os.path.join(os.fsencode(call.folder), name),
+    )
     call.words[place] = name
     call.odd.append(f"named {name!r}")
 
@@ -241,7 +312,10 @@ def _odd_name(rng: Random, call: Call) -> None:
 def _odd_words(rng: Random, call: Call) -> None:
     words = call.words or [""]
     place = rng.randrange(len(words))
-    odds: list[Word] = ["", "-", "--", "--help", "-x", "9" * 5000, "-1", "0x", b"\xff", "a\nb", "x" * 10_000, "\u2665", "-U", "--workers", "--=", "%s", "{0}", "\x1b[2J", "/dev/null", "."]
+    odds: list[Word] = [
+        "", "-", "--", "--help", "-x", "9" * 5000, "-1", "0x", b"\xff", "a\nb", "x" * 10_000,
+        "\u2665", "-U", "--workers", "--=", "%s", "{0}", "\x1b[2J", "/dev/null", ".",
+    ]
     odd = rng.choice(odds)
     change = rng.randrange(4)
     if change == 0:
@@ -259,7 +333,9 @@ def _odd_words(rng: Random, call: Call) -> None:
 
 def _odd_end(rng: Random, call: Call) -> None:
     number = rng.choice([0, 1, 1, 2, 2])
-    call.ends[number] = rng.choice(["closed", "full", "input alone", "no reader"] if number else ["closed", "zero"])
+    call.ends[number] = rng.choice(
+        ["closed", "full", "input alone", "no reader"] if number else ["closed", "zero"]
+    )
     call.odd.append(f"descriptor {number} {call.ends[number]}")
 
 
@@ -275,24 +351,35 @@ def _odd_place(rng: Random, call: Call) -> None:
     else:
         call.environment["HOME"] = "/nowhere"
         call.environment["XDG_CACHE_HOME"] = str(call.folder / "lab.unit")
-    call.odd.append(("TMPDIR missing", f"files of {call.file_limit} bytes", "a deleted folder", "no home")[kind])
+    call.odd.append(
+        ("TMPDIR missing", f"files of {call.file_limit} bytes", "a deleted folder", "no home")[kind]
+    )
 
 
 def _odd_locale(rng: Random, call: Call) -> None:
     variables = rng.choice([
-        {"LC_ALL": "C", "PYTHONUTF8": "0", "PYTHONCOERCECLOCALE": "0"}, {"PYTHONIOENCODING": "ascii"}, {"PYTHONIOENCODING": "utf-16"}, {"LC_ALL": "no_SUCH"},
-        {"KISTALUB_HINTS": "0"}, {"TERM": ""}, {"COLUMNS": "1"}, {"PATH": "/usr/bin:/bin"}, {"CC": rng.choice(["", "true", "false", "/nowhere", "sh -c exit"])},
-        {"KISTALUB_LIBRARY": rng.choice(["/nowhere", "/etc/passwd", "libc.so.6"])}, {"OMPI_COMM_WORLD_RANK": "x" * 10},
+        {"LC_ALL": "C", "PYTHONUTF8": "0", "PYTHONCOERCECLOCALE": "0"},
+        {"PYTHONIOENCODING": "ascii"}, {"PYTHONIOENCODING": "utf-16"}, {"LC_ALL": "no_SUCH"},
+        {"KISTALUB_HINTS": "0"}, {"TERM": ""}, {"COLUMNS": "1"}, {"PATH": "/usr/bin:/bin"},
+        {"CC": rng.choice(["", "true", "false", "/nowhere", "sh -c exit"])},
+        {"KISTALUB_LIBRARY": rng.choice(["/nowhere", "/etc/passwd", "libc.so.6"])},
+        {"OMPI_COMM_WORLD_RANK": "x" * 10},
     ])
     call.environment.update(variables)
     call.odd.append(f"environment {variables}")
 
 
 def _signal(rng: Random, call: Call) -> None:
-    call.signal = (rng.choice(["SIGINT", "SIGTERM", "SIGHUP"]), rng.choice(["alone", "group"]), rng.choice([0.15, 0.3, 0.5]))
+    call.signal = (
+        rng.choice(["SIGINT", "SIGTERM", "SIGHUP"]), rng.choice(["alone", "group"]),
+        rng.choice([0.15, 0.3, 0.5]),
+    )
 
 
-ODDITIES: list[Callable[[Random, Call], None]] = [_odd_file, _odd_file, _odd_file, _odd_name, _odd_words, _odd_end, _odd_end, _odd_place, _odd_locale]
+ODDITIES: list[Callable[[Random, Call], None]] = [
+    _odd_file, _odd_file, _odd_file, _odd_name, _odd_words, _odd_end, _odd_end, _odd_place,
+    _odd_locale,
+]
 
 
 def draw(rng: Random, sound: Sound, folder: Path, tree: Path, environment: dict[str, str]) -> Call:

@@ -1,7 +1,9 @@
-"""Carries out scripts of this project's form on the installed PAPI 7, by the calls of its manual pages.
+"""Carries out scripts of this project's form on the installed PAPI 7, by the calls of its manual
+pages.
 
-Scripts come on standard input without thread numbers, with an empty line after each. For each line there is one line
-with the name of PAPI's code and what it gave. `names` are those of the header `papi.h` of package libpapi-dev.
+Scripts come on standard input without thread numbers, with an empty line after each. For each line
+there is one line with the name of PAPI's code and what it gave. `names` are those of the header
+`papi.h` of package libpapi-dev.
 """
 
 from __future__ import annotations
@@ -27,7 +29,9 @@ def code_names() -> dict[int, str]:
     """The names of PAPI's codes: the first that the header has for a number."""
     try:
         with open(HEADER, encoding="utf-8", errors="replace") as header:
-            rows = re.findall(r"^#define\s+(PAPI_(?:OK|E[A-Z_]+))\s+(-?\d+)\s", header.read(), re.MULTILINE)
+            rows = re.findall(
+                r"^#define\s+(PAPI_(?:OK|E[A-Z_]+))\s+(-?\d+)\s", header.read(), re.MULTILINE
+            )
     except OSError:
         raise NotInstalled("libpapi-dev is not installed") from None
     names: dict[int, str] = {}
@@ -65,7 +69,9 @@ class Papi7:
     def _call(self, call: str, *words: str) -> str:
         method: Callable[..., tuple[int, str]] = getattr(self, f"_{call}")
         status, given = method(*words)
-        return " ".join([self.names.get(status, str(status))] + ([given] if given and status == 0 else []))
+        return " ".join(
+            [self.names.get(status, str(status))] + ([given] if given and status == 0 else [])
+        )
 
     def _set(self, number: int | str) -> c_int:
         place = int(number)
@@ -108,7 +114,10 @@ class Papi7:
     def _overflow(self, event_set: str, event: str, threshold: str) -> tuple[int, str]:
         code = c_int()
         self.library.PAPI_event_name_to_code(event.encode(), byref(code))
-        return self.library.PAPI_overflow(self._set(event_set), code, int(threshold), 0, self.handler), ""
+        return (
+            self.library.PAPI_overflow(self._set(event_set), code, int(threshold), 0, self.handler),
+            "",
+        )
 
     def _start(self, event_set: str) -> tuple[int, str]:
         return self.library.PAPI_start(self._set(event_set)), ""
@@ -122,7 +131,9 @@ class Papi7:
     def _accum(self, event_set: str) -> tuple[int, str]:
         return self._with_values(self.library.PAPI_accum, event_set, self.sums)
 
-    def _with_values(self, call: Callable[..., int], event_set: str, values: ctypes.Array[c_longlong]) -> tuple[int, str]:
+    def _with_values(
+        self, call: Callable[..., int], event_set: str, values: ctypes.Array[c_longlong]
+    ) -> tuple[int, str]:
         status = call(self._set(event_set), values)
         count = self.library.PAPI_num_events(self._set(event_set))
         return status, " ".join(str(values[place]) for place in range(max(count, 0)))

@@ -1,4 +1,5 @@
-"""The unchanged programs of papi-tools over the library, and what they list beside what the tools of this repository list. For `papi_programs`."""
+"""The unchanged programs of papi-tools over the library, and what they list beside what the tools
+of this repository list. For `papi_programs`."""
 
 from __future__ import annotations
 
@@ -51,7 +52,10 @@ def difference(what: str, have: object, wanted: object) -> str:
     if have == wanted:
         return ""
     if isinstance(have, (set, frozenset)) and isinstance(wanted, (set, frozenset)):
-        return f"{what}: there alone {sorted(have - wanted)[:5]}, here alone {sorted(wanted - have)[:5]}"
+        return (
+            f"{what}: there alone {sorted(have - wanted)[:5]}, here alone "
+            f"{sorted(wanted - have)[:5]}"
+        )
     return f"{what}: {str(have)[:120]}, and here {str(wanted)[:120]}"
 
 
@@ -71,15 +75,23 @@ class Both:
 
     def here(self, tool: str, *words: str, presets: bool = True) -> str:
         """What a tool of this repository prints."""
-        table = ["-P", str(self.files.presets), "-C", self.files.cpu] if presets and self.files.presets else []
-        done = subprocess.run([str(self.program), tool, "-U", str(self.files.unit), *table, *words], capture_output=True, text=True)
+        table = (
+            ["-P", str(self.files.presets), "-C", self.files.cpu] if presets and self.files.presets
+            else []
+        )
+        done = subprocess.run(
+            [str(self.program), tool, "-U", str(self.files.unit), *table, *words],
+            capture_output=True, text=True,
+        )
         return done.stdout
 
     # ---- what our tools list
 
     def presets(self) -> dict[str, tuple[bool, bool]]:
         """Each preset: whether it is available, and derived."""
-        rows = re.findall(r"^(PAPI_\w+) +0x[0-9a-f]+ +(Yes|No) +(Yes|No)", self.here("papi_avail"), re.MULTILINE)
+        rows = re.findall(
+            r"^(PAPI_\w+) +0x[0-9a-f]+ +(Yes|No) +(Yes|No)", self.here("papi_avail"), re.MULTILINE
+        )
         return {name: (available == "Yes", derived == "Yes") for name, available, derived in rows}
 
     def natives(self) -> dict[str, list[str]]:
@@ -93,7 +105,9 @@ class Both:
         return events
 
     def components(self) -> list[str]:
-        return re.findall(r"^Component (\S+): pmu", self.here("papi_native_avail", presets=False), re.MULTILINE)
+        return re.findall(
+            r"^Component (\S+): pmu", self.here("papi_native_avail", presets=False), re.MULTILINE
+        )
 
     # ---- the comparisons
 
@@ -101,24 +115,42 @@ class Both:
         for name, words in PROGRAMS.items():
             if name not in OWN_COMPARISON:
                 ran = self.there(name, *words)
-                yield Case(name, "" if ran.status == 0 else f"{ran.how}: {(ran.err or ran.out).strip()[-200:]}")
+                yield Case(
+                    name,
+                    "" if ran.status == 0 else f"{ran.how}: {(ran.err or ran.out).strip()[-200:]}",
+                )
         compared: list[Callable[[], str]] = [
-            self.avail, self.avail_available, self.native_avail, self.decode, self.component_avail, self.xml_events, self.version, self.error_codes]
+            self.avail, self.avail_available, self.native_avail, self.decode, self.component_avail,
+            self.xml_events, self.version, self.error_codes,
+        ]
         for compare in compared:
             yield Case(f"{compare.__name__} compared", compare())
         yield from self.choosers()
         yield from self.command_lines()
 
     def avail(self) -> str:
-        """A C program sees all of PAPI's presets. Those that the model does not have are not available over these files."""
-        rows = re.findall(r"^(PAPI_\w+) +0x[0-9a-f]+ +(Yes|No) +(Yes|No)", self.there("papi_avail").out, re.MULTILINE)
+        """A C program sees all of PAPI's presets. Those that the model does not have are not
+        available over these files."""
+        rows = re.findall(
+            r"^(PAPI_\w+) +0x[0-9a-f]+ +(Yes|No) +(Yes|No)", self.there("papi_avail").out,
+            re.MULTILINE,
+        )
         have, wanted = {name: (a == "Yes", d == "Yes") for name, a, d in rows}, self.presets()
         others = {name for name, row in have.items() if name not in wanted and row[0]}
-        return difference("presets", {name: row for name, row in have.items() if name in wanted}, wanted) or difference("further presets", others, set())
+        return difference(
+            "presets", {name: row for name, row in have.items() if name in wanted}, wanted
+        ) or difference("further presets", others, set())
 
     def avail_available(self) -> str:
-        have = set(re.findall(r"^(PAPI_\w+) +0x[0-9a-f]+ +(?:Yes|No) ", self.there("papi_avail", "-a").out, re.MULTILINE))
-        return difference("available presets", have, {name for name, row in self.presets().items() if row[0]})
+        have = set(
+            re.findall(
+                r"^(PAPI_\w+) +0x[0-9a-f]+ +(?:Yes|No) ", self.there("papi_avail", "-a").out,
+                re.MULTILINE,
+            )
+        )
+        return difference(
+            "available presets", have, {name for name, row in self.presets().items() if row[0]}
+        )
 
     def native_avail(self) -> str:
         events: dict[str, list[str]] = {}
@@ -127,11 +159,19 @@ class Both:
                 events[match[1]] = []
             elif match := re.match(r"\|     :(\S+) ", line):
                 events[list(events)[-1]].append(match[1])
-        return difference("events", set(events), set(self.natives())) or difference("umasks", events, self.natives())
+        return difference("events", set(events), set(self.natives())) or difference(
+            "umasks", events, self.natives()
+        )
 
     def decode(self) -> str:
-        have = {line.split(",")[0].strip('"') for line in self.there("papi_decode", "-a").out.splitlines() if line.startswith("PAPI_")}
-        wanted = {line.split(",")[1] for line in self.here("papi_decode", "-a").splitlines() if line.startswith("PRESET,")}
+        have = {
+            line.split(",")[0].strip('"')
+            for line in self.there("papi_decode", "-a").out.splitlines() if line.startswith("PAPI_")
+        }
+        wanted = {
+            line.split(",")[1] for line in self.here("papi_decode", "-a").splitlines()
+            if line.startswith("PRESET,")
+        }
         return difference("decoded presets", have, wanted)
 
     def component_avail(self) -> str:
@@ -144,24 +184,46 @@ class Both:
             tree = xml.fromstring(self.there("papi_xml_event_info").out)
         except xml.ParseError as error:
             return f"no XML: {error}"
-        names = {kind: {e.get("name", "") for s in tree.iter("eventset") if s.get("type") == kind for e in s.iter("event")} for kind in ("PRESET", "NATIVE")}
+        names = {
+            kind: {
+                e.get("name", "") for s in tree.iter("eventset") if s.get("type") == kind
+                for e in s.iter("event")
+            }
+            for kind in ("PRESET", "NATIVE")
+        }
         wanted = {name for name, row in self.presets().items() if row[0]}
-        return difference("XML presets", names["PRESET"], wanted) or difference("XML events", names["NATIVE"], set(self.natives()))
+        return difference("XML presets", names["PRESET"], wanted) or difference(
+            "XML events", names["NATIVE"], set(self.natives())
+        )
 
     def version(self) -> str:
-        return difference("version", self.there("papi_version").out.strip(), "PAPI Version: 7.0.0.0")
+        return difference(
+            "version", self.there("papi_version").out.strip(), "PAPI Version: 7.0.0.0"
+        )
 
     def error_codes(self) -> str:
-        have = {int(code) for code in re.findall(r"^Error code +(-?\d+):", self.there("papi_error_codes").out, re.MULTILINE)}
-        named = re.findall(r"^#define PAPI_E\w+ \(?(-\d+)", (ROOT / "include/papi_constants.h").read_text(), re.MULTILINE)
+        have = {
+            int(code)
+            for code in re.findall(
+                r"^Error code +(-?\d+):", self.there("papi_error_codes").out, re.MULTILINE
+            )
+        }
+        named = re.findall(
+            r"^#define PAPI_E\w+ \(?(-\d+)", (ROOT / "include/papi_constants.h").read_text(),
+            re.MULTILINE,
+        )
         return difference("codes of errors", have, {0, *map(int, named)})
 
     def choosers(self) -> Iterator[Case]:
-        """What can be added to some presets, and to a native event. Presets that conflict are refused on both sides."""
+        """What can be added to some presets, and to a native event. Presets that conflict are
+        refused on both sides."""
         available = [name for name, row in self.presets().items() if row[0]]
         ended = set()
         for first in range(len(available)):
-            for events in (available[first:first + 1], available[first:first + 2], available[first:first + 4]):
+            for events in (
+                available[first : first + 1], available[first : first + 2],
+                available[first : first + 4],
+            ):
                 ran = self.there("papi_event_chooser", "PRESET", *events)
                 ended.add(ran.status)
                 have = set(re.findall(r"^(PAPI_\w+) +0x", ran.out, re.MULTILINE))
@@ -169,15 +231,25 @@ class Both:
                 wanted = set(re.findall(r"^(PAPI_\w+)$", text, re.MULTILINE))
                 refused = not re.search(r"^Total events:", text, re.MULTILINE)
                 why = "" if ran.status == int(refused) else f"{ran.how}, and here {text!r}"
-                yield Case(f"papi_event_chooser PRESET {' '.join(events)}", why or difference("events", have, wanted))
+                yield Case(
+                    f"papi_event_chooser PRESET {' '.join(events)}",
+                    why or difference("events", have, wanted),
+                )
         yield Case("papi_event_chooser", "" if 0 in ended else "no call ends with status 0")
         native = next(iter(self.natives()))
-        have = set(re.findall(r"^(\S+::\S+)\t0x|^    0x[0-9a-f]+::(\S+) ", self.there("papi_event_chooser", "NATIVE", native).out, re.MULTILINE))
+        have = set(
+            re.findall(
+                r"^(\S+::\S+)\t0x|^    0x[0-9a-f]+::(\S+) ",
+                self.there("papi_event_chooser", "NATIVE", native).out, re.MULTILINE,
+            )
+        )
         text = self.here("papi_event_chooser", "NATIVE", native, presets=False)
         wanted = set(re.findall(r"^\S+::(\S+)$", text, re.MULTILINE))
         masked = {name.split(":")[0] for name in wanted if ":" in name}
         spelled = {whole.partition("::")[2] if whole else mask for whole, mask in have}
-        yield Case(f"papi_event_chooser NATIVE {native}", difference("events", spelled - masked, wanted))
+        yield Case(
+            f"papi_event_chooser NATIVE {native}", difference("events", spelled - masked, wanted)
+        )
 
     def command_lines(self) -> Iterator[Case]:
         available = [name for name, row in self.presets().items() if row[0]]
@@ -188,8 +260,12 @@ class Both:
         yield Case("papi_command_line compared", difference("counts", have, self.read_here(events)))
 
     def read_here(self, events: list[str]) -> list[int]:
-        """What papi_run reads of these events after as many occurrences as happen before PAPI_stop."""
-        lines = ["0 create", *(f"0 add 0 {event}" for event in events), "0 start 0", f"0 run {self.step}", "0 stop 0"]
+        """What papi_run reads of these events after as many occurrences as happen before
+        PAPI_stop."""
+        lines = [
+            "0 create", *(f"0 add 0 {event}" for event in events), "0 start 0",
+            f"0 run {self.step}", "0 stop 0",
+        ]
         script = self.folder / "script"
         script.write_text("\n".join(lines) + "\n")
         text = self.here("papi_run", str(script), str(self.files.stream))

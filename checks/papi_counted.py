@@ -1,4 +1,5 @@
-"""The unchanged programs of papi-tools by tools/count: each is counted twice, and says the same both times. For `papi_programs`."""
+"""The unchanged programs of papi-tools by tools/count: each is counted twice, and says the same
+both times. For `papi_programs`."""
 
 from __future__ import annotations
 
@@ -25,11 +26,14 @@ WORDS: dict[str, list[str]] = {
     "papi_multiplex_cost": ["-t", "100"],
 }
 
-# What is plausible: the numbers that a pattern finds in what a program prints or leaves in its files, and their least and their most.
+# What is plausible: the numbers that a pattern finds in what a program prints or leaves in its
+# files, and their least and their most.
 PLAUSIBLE: dict[str, list[tuple[str, int, int]]] = {
     "papi_command_line": [(r"^PAPI_\w+ :\s+(\d+)", 10_000, 1_000_000_000)],
     "papi_cost": [(r"^(?:min|max|mean) cycles +: (\d+)", 1, 10_000)],
-    "papi_clockres": [(r"^PAPI_get_real_cyc: min (\d+)", 1, 100), (r"^PAPI_get_virt_cyc: min (\d+)", 1, 100)],
+    "papi_clockres": [
+        (r"^PAPI_get_real_cyc: min (\d+)", 1, 100), (r"^PAPI_get_virt_cyc: min (\d+)", 1, 100),
+    ],
     "papi_multiplex_cost": [(r"^ +\d+\t +(\d+)\t", 1, 10_000)],
 }
 # What is said of a program that makes no call of PAPI: it is counted as a whole.
@@ -58,14 +62,19 @@ def _counted(library: Library, name: str, folder: Path) -> Case:
     for number in range(TIMES):
         own = folder / f"{name}.{number}"
         own.mkdir()
-        ran = run([COUNT, "--library", library.folder, name, *WORDS.get(name, PROGRAMS[name])], {}, SECONDS, own)
+        ran = run(
+            [COUNT, "--library", library.folder, name, *WORDS.get(name, PROGRAMS[name])], {},
+            SECONDS, own,
+        )
         files = {path.name: path.read_text(errors="replace") for path in sorted(own.iterdir())}
         why = why_of(name, ran, "\n".join([ran.out, *files.values()]))
         if why:
             return Case(name, why)
         seen.append((ran, files))
     print(f"counted {TIMES} times in {monotonic() - began:.0f} seconds: {name}", flush=True)
-    return Case(name, "" if all(one == seen[0] for one in seen) else "does not say the same each time")
+    return Case(
+        name, "" if all(one == seen[0] for one in seen) else "does not say the same each time"
+    )
 
 
 def cases(library: Library, folder: Path) -> Iterator[Case]:

@@ -1,4 +1,5 @@
-"""PAPI's own C tests: built out of a folder with PAPI's source, and run without arguments by tools/count, with what an installation has. For `papi_programs`."""
+"""PAPI's own C tests: built out of a folder with PAPI's source, and run without arguments by
+tools/count, with what an installation has. For `papi_programs`."""
 
 from __future__ import annotations
 
@@ -18,10 +19,16 @@ WORKERS = 2
 FLAGS = ["-w", "-O1", "-fopenmp", "-no-pie"]
 ENDING = ["-lpthread", "-lm", "-ldl"]
 
-# What the tests are linked with, below the source's folder. Those with a `main` of their own are no part of it.
+# What the tests are linked with, below the source's folder. Those with a `main` of their own are no
+# part of it.
 SUPPORT = ["testlib/test_utils.c", "testlib/do_loops.c", "testlib/clockcore.c"]
-SUPPORT += [f"validation_tests/{name}.c" for name in (
-    "flops_testcode", "instructions_testcode", "busy_work", "display_error", "cache_helper", "branches_testcode", "cache_testcode", "matrix_multiply")]
+SUPPORT += [
+    f"validation_tests/{name}.c"
+    for name in (
+        "flops_testcode", "instructions_testcode", "busy_work", "display_error", "cache_helper",
+        "branches_testcode", "cache_testcode", "matrix_multiply",
+    )
+]
 PROFILING = "prof_utils"
 
 PASS, SKIP, FAIL, UNBUILT = "pass", "skip", "fail", "not built"
@@ -40,19 +47,28 @@ class Result:
 
 def expectations() -> dict[str, tuple[str, str]]:
     """The tests that are not expected to pass: how each ends, and why."""
-    rows = [line.split(None, 2) for line in EXPECTED.read_text().splitlines() if line and not line.startswith("#")]
-    return {name: ("not built" if verdict == "unbuilt" else verdict, why) for name, verdict, why in rows}
+    rows = [
+        line.split(None, 2) for line in EXPECTED.read_text().splitlines()
+        if line and not line.startswith("#")
+    ]
+    return {
+        name: ("not built" if verdict == "unbuilt" else verdict, why) for name, verdict, why in rows
+    }
 
 
 def verdict_of(ran: Ran) -> tuple[str, str]:
-    """What a test says of itself: its last line has PASSED, SKIPPED or FAILED. One that says nothing passes with status 0."""
+    """What a test says of itself: its last line has PASSED, SKIPPED or FAILED. One that says
+    nothing passes with status 0."""
     text = re.sub(r"\x1b\[[0-9;]*m", "", ran.out)
     if ran.status is None or ran.status < 0:
         return FAIL, ran.how
     failed = re.search(r"FAILED.*|^.*FAILED.*$", text, re.MULTILINE)
     if failed or ran.status:
         lines = [line.strip() for line in text.splitlines() if line.strip()]
-        said = [line for line in lines if "Error" in line or "FAILED" in line or "Line #" in line] or lines[-1:] or [ran.how]
+        said = (
+            [line for line in lines if "Error" in line or "FAILED" in line or "Line #" in line]
+            or lines[-1:] or [ran.how]
+        )
         return FAIL, " / ".join(said[-3:])[:160]
     if "SKIPPED" in text:
         lines = [line.strip() for line in text.splitlines() if line.strip()]
@@ -61,9 +77,12 @@ def verdict_of(ran: Ran) -> tuple[str, str]:
 
 
 class Tests:
-    """The tests of a source folder, built into another folder. The runner's words come before the program's."""
+    """The tests of a source folder, built into another folder. The runner's words come before the
+    program's."""
 
-    def __init__(self, source: Path, folder: Path, compiler: str, words: list[str], runner: list[object]):
+    def __init__(
+        self, source: Path, folder: Path, compiler: str, words: list[str], runner: list[object]
+    ):
         self.source = source
         self.folder = folder
         self.compiler = compiler
@@ -73,11 +92,15 @@ class Tests:
         self.archive = folder / "libsupport.a"
 
     def names(self) -> list[str]:
-        return sorted(file.stem for file in (self.source / "ctests").glob("*.c") if file.stem != PROFILING)
+        return sorted(
+            file.stem for file in (self.source / "ctests").glob("*.c") if file.stem != PROFILING
+        )
 
     def _compile(self, words: list[object]) -> str:
         """Calls the compiler, and gives the first line that has an error, or nothing."""
-        done = subprocess.run([self.compiler, *FLAGS, *map(str, words)], capture_output=True, text=True)
+        done = subprocess.run(
+            [self.compiler, *FLAGS, *map(str, words)], capture_output=True, text=True
+        )
         if done.returncode == 0:
             return ""
         lines = done.stderr.splitlines() or ["the compiler says nothing"]
@@ -92,14 +115,24 @@ class Tests:
             if why:
                 return f"{part}: {why}"
             objects.append(target)
-        done = subprocess.run(["ar", "rc", str(self.archive), *map(str, objects)], capture_output=True, text=True)
+        done = subprocess.run(
+            ["ar", "rc", str(self.archive), *map(str, objects)], capture_output=True, text=True
+        )
         return done.stderr.strip()
 
     def build(self, name: str) -> str:
         """Builds a test, and says why it is not built, or nothing."""
         file = self.source / f"ctests/{name}.c"
-        more = [self.source / f"ctests/{PROFILING}.c"] if f'"{PROFILING}.h"' in file.read_text(errors="replace") else []
-        return self._compile([*self.words[:1], *self.includes, file, *more, self.archive, *self.words[1:], *ENDING, "-o", self.folder / name])
+        more = (
+            [self.source / f"ctests/{PROFILING}.c"]
+            if f'"{PROFILING}.h"' in file.read_text(errors="replace") else []
+        )
+        return self._compile(
+            [
+                *self.words[:1], *self.includes, file, *more, self.archive, *self.words[1:],
+                *ENDING, "-o", self.folder / name,
+            ]
+        )
 
     def run(self, name: str) -> Result:
         began = monotonic()

@@ -1,4 +1,5 @@
-"""PAPI's own Fortran tests over the library, as the C tests are built and run in `papi_ctests`. For `papi_programs`."""
+"""PAPI's own Fortran tests over the library, as the C tests are built and run in `papi_ctests`. For
+`papi_programs`."""
 
 from __future__ import annotations
 
@@ -20,15 +21,22 @@ def fortran_compiler() -> str:
 
 
 class FortranTests(Tests):
-    """The tests of `ftests`. They are copied into the folder and compiled there, which keeps the names of their files short."""
+    """The tests of `ftests`. They are copied into the folder and compiled there, which keeps the
+    names of their files short."""
 
     def names(self) -> list[str]:
         return sorted(file.name for file in (self.source / "ftests").glob("*.F"))
 
     def _compile_fortran(self, words: list[str]) -> str:
-        done = subprocess.run([fortran_compiler(), *FORTRAN_FLAGS, *words], cwd=self.place, capture_output=True, text=True)
+        done = subprocess.run(
+            [fortran_compiler(), *FORTRAN_FLAGS, *words], cwd=self.place, capture_output=True,
+            text=True,
+        )
         lines = done.stderr.splitlines() or ["the compiler says nothing"]
-        return "" if done.returncode == 0 else next((line for line in lines if "Error" in line or "undefined" in line), lines[0])
+        return (
+            "" if done.returncode == 0
+            else next((line for line in lines if "Error" in line or "undefined" in line), lines[0])
+        )
 
     @property
     def place(self) -> Path:
@@ -37,14 +45,23 @@ class FortranTests(Tests):
 
     def build_support(self) -> str:
         self.place.mkdir()
-        for file in [*(self.source / "ftests").glob("*.F"), *(self.source / "testlib").glob("*.[Fh]")]:
+        for file in [
+            *(self.source / "ftests").glob("*.F"), *(self.source / "testlib").glob("*.[Fh]"),
+        ]:
             shutil.copy(file, self.place)
         for part in SUPPORT:
-            why = self._compile([*self.words[:1], *self.includes, "-c", self.source / f"testlib/{part}.c", "-o", self.place / f"{part}.o"])
+            why = self._compile(
+                [
+                    *self.words[:1], *self.includes, "-c", self.source / f"testlib/{part}.c", "-o",
+                    self.place / f"{part}.o",
+                ]
+            )
             if why:
                 return f"{part}: {why}"
         return self._compile_fortran([self.words[0], "-c", UTILITIES, "-o", "ftests_util.o"])
 
     def build(self, name: str) -> str:
         objects = ["ftests_util.o", *(f"{part}.o" for part in SUPPORT)]
-        return self._compile_fortran([self.words[0], name, *objects, *self.words[1:], "-o", str(self.folder / name)])
+        return self._compile_fortran(
+            [self.words[0], name, *objects, *self.words[1:], "-o", str(self.folder / name)]
+        )

@@ -17,7 +17,8 @@ SHARED = "libpapi.so.7.0"
 
 @dataclass(frozen=True)
 class Files:
-    """What programs run over: a unit, presets for a cpu or none, and the streams. Of events that count nothing nothing is said: it is the programs' own words that are looked at."""
+    """What programs run over: a unit, presets for a cpu or none, and the streams. Of events that
+    count nothing nothing is said: it is the programs' own words that are looked at."""
 
     unit: Path
     presets: Path | None = None
@@ -25,13 +26,22 @@ class Files:
     stream: Path | None = None
 
     def environment(self) -> dict[str, str]:
-        names = {"KISTALUB_UNIT": self.unit, "KISTALUB_PRESETS": self.presets, "KISTALUB_CPU": self.cpu, "KISTALUB_STREAM": self.stream}
-        return {"KISTALUB_HINTS": "0", **{name: str(value) for name, value in names.items() if value}}
+        names = {
+            "KISTALUB_UNIT": self.unit,
+            "KISTALUB_PRESETS": self.presets,
+            "KISTALUB_CPU": self.cpu,
+            "KISTALUB_STREAM": self.stream,
+        }
+        return {
+            "KISTALUB_HINTS": "0",
+            **{name: str(value) for name, value in names.items() if value},
+        }
 
 
 @dataclass(frozen=True)
 class Ran:
-    """What a program ended with and wrote. A status below 0 is a signal's number, and none says that it did not end in time."""
+    """What a program ended with and wrote. A status below 0 is a signal's number, and none says
+    that it did not end in time."""
 
     status: int | None
     out: str
@@ -42,15 +52,24 @@ class Ran:
         """How it ended, in words."""
         if self.status is None:
             return "no end in time"
-        return f"signal {signal.Signals(-self.status).name}" if self.status < 0 else f"status {self.status}"
+        return (
+            f"signal {signal.Signals(-self.status).name}" if self.status < 0
+            else f"status {self.status}"
+        )
 
 
 def run(words: Iterable[object], environment: dict[str, str], seconds: int, folder: Path) -> Ran:
-    """Runs a program in a folder, with all that it starts in a group of its own, which is ended with it."""
-    clean = {name: value for name, value in os.environ.items() if not name.startswith(("KISTALUB_", "PAPI_"))}
+    """Runs a program in a folder, with all that it starts in a group of its own, which is ended
+    with it."""
+    clean = {
+        name: value for name, value in os.environ.items()
+        if not name.startswith(("KISTALUB_", "PAPI_"))
+    }
     with tempfile.TemporaryFile() as out, tempfile.TemporaryFile() as err:
-        child = subprocess.Popen([str(word) for word in words], cwd=folder, env={**clean, **environment}, stdin=subprocess.DEVNULL,
-                                 stdout=out, stderr=err, start_new_session=True)
+        child = subprocess.Popen(
+            [str(word) for word in words], cwd=folder, env={**clean, **environment},
+            stdin=subprocess.DEVNULL, stdout=out, stderr=err, start_new_session=True,
+        )
         status: int | None = None
         try:
             status = child.wait(seconds)
@@ -90,10 +109,15 @@ class Library:
     @staticmethod
     def install(prefix: Path) -> str:
         """Installs under a folder, and says what went wrong, or nothing."""
-        done = subprocess.run([str(ROOT / "bin/install"), str(prefix)], capture_output=True, text=True)
+        done = subprocess.run(
+            [str(ROOT / "bin/install"), str(prefix)], capture_output=True, text=True
+        )
         if done.returncode:
             return done.stderr.strip() or f"bin/install ends with status {done.returncode}"
-        return "" if (prefix / "lib/kistalub" / SHARED).exists() else f"bin/install puts no {SHARED} there"
+        return (
+            "" if (prefix / "lib/kistalub" / SHARED).exists()
+            else f"bin/install puts no {SHARED} there"
+        )
 
     def environment(self, files: Files) -> dict[str, str]:
         return {"LD_LIBRARY_PATH": str(self.folder), **files.environment()}

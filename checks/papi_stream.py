@@ -1,4 +1,5 @@
-"""A stream for programs that say nothing of what they count: each event of a unit happens again and again. For `papi_programs`."""
+"""A stream for programs that say nothing of what they count: each event of a unit happens again and
+again. For `papi_programs`."""
 
 from __future__ import annotations
 
@@ -6,7 +7,8 @@ import csv
 from pathlib import Path
 from typing import Iterator
 
-# Where a program that is built without position independence has its code: 0x401000 and what follows.
+# Where a program that is built without position independence has its code: 0x401000 and what
+# follows.
 FIRST_ADDRESS = 0x401000
 ADDRESSES = 0x6000
 STRIDE = 0x10
@@ -18,7 +20,8 @@ KERNEL_EVERY = 7
 
 
 def kinds(unit: Path) -> list[tuple[int, int, int]]:
-    """What can happen: component, select code and umask. An event with umasks has an occurrence for each of them."""
+    """What can happen: component, select code and umask. An event with umasks has an occurrence for
+    each of them."""
     component = -1
     happening: dict[tuple[int, int, int], None] = {}
     masked = set()
@@ -35,7 +38,8 @@ def kinds(unit: Path) -> list[tuple[int, int, int]]:
 
 
 def lines(unit: Path, count: int) -> Iterator[str]:
-    """`count` lines of a stream: over and over again what can happen, each time between a cycle and an instruction."""
+    """`count` lines of a stream: over and over again what can happen, each time between a cycle and
+    an instruction."""
     around = [(0, CYCLES, 0), (0, INSTRUCTIONS, 0)]
     happening = [kind for other in kinds(unit) for kind in (*around, other)]
     for place in range(count):
@@ -53,5 +57,6 @@ def write(unit: Path, stream: Path, count: int) -> None:
 
 
 def round_of(unit: Path) -> int:
-    """How many occurrences there are until all has happened in both modes, over and over again the same."""
+    """How many occurrences there are until all has happened in both modes, over and over again the
+    same."""
     return 3 * len(kinds(unit)) * KERNEL_EVERY

@@ -1,4 +1,5 @@
-"""The built program as `disk`, `words` and `faults` run it, and what docs/FORMATS.md says of the lines and the status of a run."""
+"""The built program as `disk`, `words` and `faults` run it, and what docs/FORMATS.md says of the
+lines and the status of a run."""
 
 from __future__ import annotations
 
@@ -53,7 +54,8 @@ BAD_WORDS = b"papi: bad words\n"
 
 @dataclass(frozen=True)
 class Run:
-    """What a run ended with and wrote. A status below 0 is a signal's number, and none says that the run did not end in time."""
+    """What a run ended with and wrote. A status below 0 is a signal's number, and none says that
+    the run did not end in time."""
 
     status: int | None
     out: bytes
@@ -62,7 +64,8 @@ class Run:
 
 @dataclass(frozen=True)
 class Example:
-    """Words over the files of a folder, as those of examples/, and what the program writes and ends with."""
+    """Words over the files of a folder, as those of examples/, and what the program writes and ends
+    with."""
 
     words: tuple[str, ...]
     wanted: Run
@@ -74,11 +77,15 @@ class Example:
             path = EXAMPLES / f"{name}.{ending}"
             return path.read_bytes() if path.exists() else b""
 
-        return cls(tuple(text("words").decode().splitlines()), Run(int(text("status") or 0), text("expected"), text("errors")))
+        return cls(
+            tuple(text("words").decode().splitlines()),
+            Run(int(text("status") or 0), text("expected"), text("errors")),
+        )
 
 
 def held_up(process: int) -> bool:
-    """Whether a process has work to do, and has had less than its seconds of a processor, as on a machine with much other work."""
+    """Whether a process has work to do, and has had less than its seconds of a processor, as on a
+    machine with much other work."""
     states, ticks = set(), 0
     for file in Path(f"/proc/{process}/task").glob("*/stat"):
         fields = file.read_text().rpartition(")")[2].split()
@@ -88,11 +95,14 @@ def held_up(process: int) -> bool:
 
 
 def processor_of(session: int) -> tuple[float, bool]:
-    """The seconds of a processor that the processes of a session took, and whether one of them has work to do now."""
+    """The seconds of a processor that the processes of a session took, and whether one of them has
+    work to do now."""
     ticks, has_work = 0, False
     for path in Path("/proc").glob("[0-9]*/stat"):
         with suppress(OSError):
-            state, _, _, its_session, *more = path.read_text(errors="replace").rpartition(")")[2].split()
+            state, _, _, its_session, *more = (
+                path.read_text(errors="replace").rpartition(")")[2].split()
+            )
             if int(its_session) == session:
                 ticks += sum(int(each) for each in more[7:11])
                 has_work = has_work or state in "RD"
@@ -100,7 +110,8 @@ def processor_of(session: int) -> tuple[float, bool]:
 
 
 def session_is_held_up(session: int, seconds: float) -> bool:
-    """Whether a session has work to do, and has not had so many seconds of a processor, as on a machine with much other work."""
+    """Whether a session has work to do, and has not had so many seconds of a processor, as on a
+    machine with much other work."""
     for _ in range(LOOKS):
         taken, has_work = processor_of(session)
         if has_work:
@@ -110,7 +121,8 @@ def session_is_held_up(session: int, seconds: float) -> bool:
 
 
 def communicate(child: subprocess.Popen) -> tuple[bytes | None, bytes | None]:
-    """What a process writes up to its end. It has its seconds, and more of them while others hold it up."""
+    """What a process writes up to its end. It has its seconds, and more of them while others hold
+    it up."""
     for _ in range(PATIENCE):
         try:
             return child.communicate(timeout=SECONDS)
@@ -127,8 +139,14 @@ class Program:
         self.path = str(path.absolute())
 
     def run(self, words: list[Word], folder: Path = EXAMPLES, **how: object) -> Run:
-        """A run in a folder. `how` goes to subprocess.Popen; what is written elsewhere than to a pipe of this process reads as empty."""
-        how = {"stdin": subprocess.DEVNULL, "stdout": subprocess.PIPE, "stderr": subprocess.PIPE, **how}
+        """A run in a folder. `how` goes to subprocess.Popen; what is written elsewhere than to a
+        pipe of this process reads as empty."""
+        how = {
+            "stdin": subprocess.DEVNULL,
+            "stdout": subprocess.PIPE,
+            "stderr": subprocess.PIPE,
+            **how,
+        }
         child = subprocess.Popen([self.path, *words], cwd=folder, start_new_session=True, **how)
         ended_in_time = True
         try:
@@ -180,7 +198,9 @@ def ended(run: Run) -> str:
 
 def shown(text: bytes) -> str:
     """The beginning of what was written, on one line."""
-    return repr(text[:200])[1:] + (f" and {len(text) - 200:,} bytes more" if len(text) > 200 else "")
+    return repr(text[:200])[1:] + (
+        f" and {len(text) - 200:,} bytes more" if len(text) > 200 else ""
+    )
 
 
 def differs(run: Run, wanted: Run) -> str:
@@ -194,7 +214,8 @@ def differs(run: Run, wanted: Run) -> str:
     return "; ".join(said)
 
 
-# The lines that end a call, each with its status. NAME is the end of a word, since an option and its value may be one word.
+# The lines that end a call, each with its status. NAME is the end of a word, since an option and
+# its value may be one word.
 ENDINGS = [
     (rf"papi: bad words\n", REFUSED),
     (rf"papi: no such file: (?P<name>.*)\n", REFUSED),
@@ -203,7 +224,10 @@ ENDINGS = [
     (rf"papi: (?P<name>.*): row [1-9][0-9]*: {one_of('unit', 'presets', 'map')}\n", REFUSED),
     (rf"papi: (?P<name>.*): line [1-9][0-9]*: {one_of('script', 'regions')}\n", REFUSED),
 ]
-STREAM_LINE = rf"papi: stream ([0-9]|[1-5][0-9]|6[0-3]): (?:line [1-9][0-9]*: {one_of('stream')}|(read failed))\n"
+STREAM_LINE = (
+    rf"papi: stream ([0-9]|[1-5][0-9]|6[0-3]): (?:line [1-9][0-9]*: {one_of('stream')}|(read "
+    r"failed))\n"
+)
 
 
 def _ending(err: bytes, words: list[Word]) -> int | None:
@@ -218,7 +242,8 @@ def _ending(err: bytes, words: list[Word]) -> int | None:
 
 
 def _stream_status(err: bytes) -> int | None:
-    """The status of the lines after the runs, or none if these are other lines, or not in the order of the threads."""
+    """The status of the lines after the runs, or none if these are other lines, or not in the order
+    of the threads."""
     if not re.fullmatch(rf"(?:{STREAM_LINE})+".encode(), err):
         return None
     lines = re.findall(STREAM_LINE.encode(), err)
@@ -229,7 +254,8 @@ def _stream_status(err: bytes) -> int | None:
 
 
 def wrong(run: Run, words: list[Word]) -> str:
-    """What in the status and the lines of a run with ample memory and outputs that take all is not as docs/FORMATS.md has it."""
+    """What in the status and the lines of a run with ample memory and outputs that take all is not
+    as docs/FORMATS.md has it."""
     if run.status not in (WHOLE, NO, REFUSED, READ_FAULT):
         return ended(run)
     if not run.err:
@@ -245,17 +271,26 @@ def wrong(run: Run, words: list[Word]) -> str:
 
 
 def usual_program() -> Path:
-    """The proved program if it is built, or else the same code unproved, which is compiled if it is not kept."""
+    """The proved program if it is built, or else the same code unproved, which is compiled if it is
+    not kept."""
     if os.access(PROGRAM, os.X_OK):
         return PROGRAM
-    found = subprocess.run([str(ROOT / "bin/papi"), "--compile"], stdin=subprocess.DEVNULL, stdout=subprocess.PIPE, text=True)
+    found = subprocess.run(
+        [str(ROOT / "bin/papi"), "--compile"], stdin=subprocess.DEVNULL, stdout=subprocess.PIPE,
+        text=True,
+    )
     return PROGRAM if found.returncode else Path(found.stdout.rstrip("\n"))
 
 
-def check_program(name: str, about: str, work: Callable[[argparse.Namespace, Program], Tally], *options: tuple) -> None:
+def check_program(
+    name: str, about: str, work: Callable[[argparse.Namespace, Program], Tally], *options: tuple
+) -> None:
     """Reads the words of a check, and does it over the program that they name."""
     parser = argparse.ArgumentParser(prog=name, description=about)
-    parser.add_argument("program", metavar="PROGRAM", nargs="?", type=Path, help="the program (crates/papi/out/papi, or the same code unproved)")
+    parser.add_argument(
+        "program", metavar="PROGRAM", nargs="?", type=Path,
+        help="the program (crates/papi/out/papi, or the same code unproved)",
+    )
     for option, how in options:
         parser.add_argument(option, **how)
     words = parser.parse_args()

@@ -1,4 +1,5 @@
-"""Which tests run which lines of the Python programs: `mutants` tries a change with the tests that run its place."""
+"""Which tests run which lines of the Python programs: `mutants` tries a change with the tests that
+run its place."""
 
 from __future__ import annotations
 
@@ -7,7 +8,8 @@ from dataclasses import dataclass, field
 from pathlib import Path
 
 FUTURE = "from __future__ import annotations"
-# What an instrumented file does first. It depends on no environment and no path, and its descriptor is none that a test looks at.
+# What an instrumented file does first. It depends on no environment and no path, and its descriptor
+# is none that a test looks at.
 TRACER = """
 import os, sys
 if "kistalub_tracer" not in sys.modules:
@@ -70,7 +72,8 @@ sys._getframe(1).f_trace = sys.modules["kistalub_tracer"].each_line
 
 
 def end_of(file: str) -> str:
-    """The last two parts of the name of a file in a folder, by which it is known in a copy of a copy too."""
+    """The last two parts of the name of a file in a folder, by which it is known in a copy of a
+    copy too."""
     return "/".join(file.split("/")[-2:])
 
 
@@ -90,12 +93,18 @@ def instrument(top: Path, files: list[str], folder: Path) -> None:
 
 
 def lines_of_statements(content: bytes) -> dict[int, range]:
-    """For each line the lines of the innermost statement that it belongs to, without those of the statements within."""
+    """For each line the lines of the innermost statement that it belongs to, without those of the
+    statements within."""
     found: dict[int, range] = {}
     for node in ast.walk(ast.parse(content)):  # the outer ones come first
         if isinstance(node, ast.stmt):
-            within = [each for each in ast.iter_child_nodes(node) if isinstance(each, (ast.stmt, ast.ExceptHandler))]
-            last = min((each.lineno for each in within), default=(node.end_lineno or node.lineno) + 1)
+            within = [
+                each for each in ast.iter_child_nodes(node)
+                if isinstance(each, (ast.stmt, ast.ExceptHandler))
+            ]
+            last = min(
+                (each.lineno for each in within), default=(node.end_lineno or node.lineno) + 1
+            )
             own = range(node.lineno, max(last, node.lineno + 1))
             found.update({line: own for line in own})
     return found
@@ -112,7 +121,8 @@ def module_lines(content: bytes) -> set[int]:
 
 @dataclass
 class Seen:
-    """For each test, by its place in the order, the lines that it runs: name of the file and number."""
+    """For each test, by its place in the order, the lines that it runs: name of the file and
+    number."""
 
     tests: dict[str, set[tuple[str, int]]] = field(default_factory=dict)
 
@@ -123,9 +133,13 @@ class Seen:
         for number, name in enumerate(names, 1):
             path = folder / str(number)
             rows = path.read_text().splitlines() if path.exists() else []
-            rows += [file.partition(".")[2].replace("%", "/") for file in files if file.startswith(f"{number}.")]
+            rows += [
+                file.partition(".")[2].replace("%", "/") for file in files
+                if file.startswith(f"{number}.")
+            ]
             parts = [row.partition("\t") for row in rows]
-            seen.tests[name] = {(end, int(line)) for end, _, line in parts if line.isdigit()}  # a row may have been cut
+            # a row may have been cut
+            seen.tests[name] = {(end, int(line)) for end, _, line in parts if line.isdigit()}
         return seen
 
     def of_lines(self, file: str, lines: range) -> list[str]:
@@ -136,4 +150,7 @@ class Seen:
     def of_functions(self, file: str, content: bytes) -> list[str]:
         """The tests that run a function of the file."""
         end, outside = end_of(file), module_lines(content)
-        return [name for name, rows in self.tests.items() if any(row[0] == end and row[1] not in outside for row in rows)]
+        return [
+            name for name, rows in self.tests.items()
+            if any(row[0] == end and row[1] not in outside for row in rows)
+        ]

@@ -40,7 +40,10 @@ def preset_value(row: str, replies: list[str]) -> str:
 
 
 def code_words(replies: list[str]) -> str:
-    return "their codes" if replies == [f"PAPI_OK {symbol}" for symbol in PRESET_CODES] else "other codes"
+    return (
+        "their codes" if replies == [f"PAPI_OK {symbol}" for symbol in PRESET_CODES]
+        else "other codes"
+    )
 
 
 class Papi7Side:
@@ -65,14 +68,18 @@ class Papi7Side:
         with tempfile.NamedTemporaryFile("w", suffix=".csv") as presets:
             presets.write(case.text.format(CPU=upper, cpu=other))
             presets.flush()
-            replies = self._replies(preset_calls(case.symbol), {"PAPI_CSV_EVENT_FILE": presets.name})
+            replies = self._replies(
+                preset_calls(case.symbol), {"PAPI_CSV_EVENT_FILE": presets.name}
+            )
         return "the program is ended" if replies is None else preset_value(row, replies)
 
     def _replies(self, script: list[str], environment: dict[str, str]) -> list[str] | None:
         """One reply for each line, or nothing if the process was ended."""
         words = [sys.executable, "-B", str(PAPI7)]
         text = "\n".join(script) + "\n"
-        done = subprocess.run(words, input=text, capture_output=True, text=True, env={**os.environ, **environment})
+        done = subprocess.run(
+            words, input=text, capture_output=True, text=True, env={**os.environ, **environment}
+        )
         if done.returncode > 0:
             raise Missing(done.stderr.strip().removeprefix("papi7: "))
         return done.stdout.split("\n")[: len(script)] if done.returncode == 0 else None
@@ -100,7 +107,9 @@ class Here:
         self._write("unit", UNIT)
         self._write("stream", STREAM)
         library = Libpfm4()
-        self._write("skl.unit", "\n".join(Converter(library, library.pmu("skl")).unit().rows()) + "\n")
+        self._write(
+            "skl.unit", "\n".join(Converter(library, library.pmu("skl")).unit().rows()) + "\n"
+        )
 
     def call(self, row: str) -> str:
         return CALLS[row].shown(self._replies(list(CALLS[row].script), []))
@@ -120,7 +129,9 @@ class Here:
         (Path(self.folder.name) / name).write_text(text, encoding="utf-8")
 
     def _run(self, *words: str) -> subprocess.CompletedProcess[str]:
-        return subprocess.run([self.program, *words], capture_output=True, text=True, cwd=self.folder.name)
+        return subprocess.run(
+            [self.program, *words], capture_output=True, text=True, cwd=self.folder.name
+        )
 
     def _replies(self, script: list[str], presets: list[str]) -> list[str]:
         """One reply for each line, or the cause of a refused file alone."""

@@ -1,4 +1,5 @@
-"""Which counters a unit file's rows allow a name, read by themselves, and how a set of names stands on them (docs/FORMATS.md, The unit file)."""
+"""Which counters a unit file's rows allow a name, read by themselves, and how a set of names stands
+on them (docs/FORMATS.md, The unit file)."""
 
 from __future__ import annotations
 
@@ -41,17 +42,32 @@ class UnitRows:
         _, _, event, attributes = parts_of(name.upper())
         umasks = [attribute for attribute in attributes if (event, attribute) in self.allowed]
         key = event, umasks[0] if umasks else self.default.get(event, "")
-        is_modified = key in self.modified or any(attribute.partition("=")[0] in ("E", "I", "C") for attribute in attributes if attribute not in umasks)
-        return sorted((counter for counter in self.allowed[key] if counter in self.programmable or not is_modified), key=self.order.__getitem__)
+        is_modified = key in self.modified or any(
+            attribute.partition("=")[0] in ("E", "I", "C") for attribute in attributes
+            if attribute not in umasks
+        )
+        return sorted(
+            (
+                counter for counter in self.allowed[key]
+                if counter in self.programmable or not is_modified
+            ),
+            key=self.order.__getitem__,
+        )
 
     def place(self, names: list[str]) -> list[int] | None:
-        """The first assignment: of each name in turn the first counter with which the others find theirs. None if there is no assignment."""
+        """The first assignment: of each name in turn the first counter with which the others find
+        theirs. None if there is no assignment."""
         rows = [self.counters(name) for name in names]
         if not _fits(rows):
             return None
         for number, row in enumerate(rows):
-            rows[number] = next([counter] for counter in row if _fits([*rows[:number], [counter], *rows[number + 1 :]]))
-        return [int(counter[1:]) + (0 if counter in self.programmable else FIXED) for (counter,) in rows]
+            rows[number] = next(
+                [counter] for counter in row
+                if _fits([*rows[:number], [counter], *rows[number + 1 :]])
+            )
+        return [
+            int(counter[1:]) + (0 if counter in self.programmable else FIXED) for (counter,) in rows
+        ]
 
 
 def _fits(rows: list[list[str]]) -> bool:
