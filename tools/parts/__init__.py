@@ -1,4 +1,5 @@
-"""What the programs of tools/ share. After it `formats` is found too, which knows the formats of files."""
+"""What the programs of tools/ share. After it `formats` is found too, which knows the formats of
+files."""
 
 import os.path
 import sys

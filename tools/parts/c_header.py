@@ -1,4 +1,5 @@
-"""What a header of C declares: its functions, types, enumerators and macros, read out of what the compiler's preprocessor writes."""
+"""What a header of C declares: its functions, types, enumerators and macros, read out of what the
+compiler's preprocessor writes."""
 
 from __future__ import annotations
 
@@ -13,7 +14,8 @@ from parts.compiler import compiler, cause, run_compiler
 
 @dataclass(frozen=True)
 class Member:
-    """A member of a struct or union. `type` is its type without a name; a bit-field has its width in bits."""
+    """A member of a struct or union. `type` is its type without a name; a bit-field has its width
+    in bits."""
 
     name: str
     type: str
@@ -50,7 +52,13 @@ class Header:
 
     def possible_constants(self) -> list[str]:
         """The names that may be constants: macros without parameters, then enumerators."""
-        return [*(name for name, macro in self.macros.items() if macro.parameters is None and macro.body), *self.enumerators]
+        return [
+            *(
+                name for name, macro in self.macros.items()
+                if macro.parameters is None and macro.body
+            ),
+            *self.enumerators,
+        ]
 
     def names(self) -> set[str]:
         return {*self.functions, *self.composites, *self.typedefs, *self.enumerators, *self.macros}
@@ -66,7 +74,8 @@ def preprocessed(name: str, folder: Path | None) -> str:
 
 
 def read_header(name: str, folder: Path | None = None, of_header: str = "papi") -> Header:
-    """The declarations of a header and of those that it includes whose file names begin with `of_header`, out of a folder or the system's."""
+    """The declarations of a header and of those that it includes whose file names begin with
+    `of_header`, out of a folder or the system's."""
     header = Header()
     text: list[str] = []
     own = False
@@ -93,7 +102,10 @@ def read_header(name: str, folder: Path | None = None, of_header: str = "papi") 
 def read_directive(line: str, header: Header) -> None:
     define = re.match(r"#define (\w+)(?:\(([^)]*)\))?\s*(.*)$", line)
     if define:
-        parameters = None if define[2] is None else tuple(word.strip() for word in define[2].split(",") if word.strip())
+        parameters = (
+            None if define[2] is None
+            else tuple(word.strip() for word in define[2].split(",") if word.strip())
+        )
         header.macros[define[1]] = Macro(define[1], parameters, define[3].strip())
     undefined = re.match(r"#undef (\w+)", line)
     if undefined:
@@ -117,7 +129,9 @@ def read_declaration(declaration: str, header: Header) -> None:
     pointer = re.fullmatch(r"typedef (.*)\(\* ?(\w+) ?\) ?(\(.*\))", declaration)
     typedef = re.fullmatch(r"typedef (.*[ *])(\w+)", declaration)
     if enum:
-        header.enumerators += [item.split("=")[0].strip() for item in enum[2].split(",") if item.strip()]
+        header.enumerators += [
+            item.split("=")[0].strip() for item in enum[2].split(",") if item.strip()
+        ]
         if enum[3]:
             header.typedefs[enum[3]] = "int" if re.search(r"= ?-", enum[2]) else "unsigned int"
     elif composite:
@@ -144,5 +158,9 @@ def members(body: str) -> Iterator[Member]:
         if not parsed or not all(further):
             raise Fault(f"a member of another form: {declaration}")
         base = parsed[1]
-        for stars, name, sizes, bits in (parsed.groups()[1:], *(item.groups() for item in further if item)):
-            yield Member(name, f"{base} {stars.strip()}{sizes.strip()}".strip(), int(bits) if bits else None)
+        for stars, name, sizes, bits in (
+            parsed.groups()[1:], *(item.groups() for item in further if item),
+        ):
+            yield Member(
+                name, f"{base} {stars.strip()}{sizes.strip()}".strip(), int(bits) if bits else None
+            )

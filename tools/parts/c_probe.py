@@ -1,4 +1,5 @@
-"""Asks the C compiler what statements write after a header. Those that it does not take have no answer."""
+"""Asks the C compiler what statements write after a header. Those that it does not take have no
+answer."""
 
 from __future__ import annotations
 
@@ -25,22 +26,34 @@ CONSTANT = """
 
 
 def probe(header: str, folder: Path | None, rows: dict[str, str]) -> dict[str, str]:
-    """What each statement writes in a program that includes the header. A statement that does not compile writes nothing and has no answer."""
+    """What each statement writes in a program that includes the header. A statement that does not
+    compile writes nothing and has no answer."""
     left = dict(rows)
     where = ["-I", str(folder)] if folder else []
     with temporary_folder("probe-") as place:
         source, program = Path(place, "probe.c"), Path(place, "probe")
         while left:
-            lines = [f'#include <{header}>', "#include <stddef.h>", "#include <stdio.h>", "#include <string.h>", CONSTANT.strip(), "int main(void) {"]
+            lines = [
+                f'#include <{header}>', "#include <stddef.h>", "#include <stdio.h>",
+                "#include <string.h>", CONSTANT.strip(), "int main(void) {",
+            ]
             first = "\n".join(lines).count("\n") + 2
-            lines += [f'printf("{name}\\t"); {statement}; putchar(10);' for name, statement in left.items()]
+            lines += [
+                f'printf("{name}\\t"); {statement}; putchar(10);'
+                for name, statement in left.items()
+            ]
             source.write_text("\n".join([*lines, "}", ""]), encoding="utf-8")
-            done = run_compiler("-std=gnu11", "-w", "-fmax-errors=0", *where, str(source), "-o", str(program))
+            done = run_compiler(
+                "-std=gnu11", "-w", "-fmax-errors=0", *where, str(source), "-o", str(program)
+            )
             if done.returncode == 0:
                 return _answers(header, program)
             names = list(left)
-            # An error in what a macro stands for is told at the macro's place, and a note names the statement.
-            wrong = {int(at) - first for at in re.findall(r"probe\.c:(\d+):\d+: ", done.stderr)} & set(range(len(names)))
+            # An error in what a macro stands for is told at the macro's place, and a note names the
+            # statement.
+            wrong = {
+                int(at) - first for at in re.findall(r"probe\.c:(\d+):\d+: ", done.stderr)
+            } & set(range(len(names)))
             if not wrong:
                 raise Fault(f"the probe of {header} is not built: {cause(done.stderr)}")
             for at in wrong:
@@ -50,7 +63,9 @@ def probe(header: str, folder: Path | None, rows: dict[str, str]) -> dict[str, s
 
 def _answers(header: str, program: Path) -> dict[str, str]:
     try:
-        done = subprocess.run([str(program)], capture_output=True, text=True, encoding="utf-8", errors="replace")
+        done = subprocess.run(
+            [str(program)], capture_output=True, text=True, encoding="utf-8", errors="replace"
+        )
     except OSError as error:
         raise Fault(f"the probe of {header} does not run: {error.strerror}") from None
     if done.returncode:

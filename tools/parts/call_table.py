@@ -1,4 +1,5 @@
-"""The table of calls (crates/call_type/calls.csv), and what other files have of it: lines between marks, and a paragraph of a usage text."""
+"""The table of calls (crates/call_type/calls.csv), and what other files have of it: lines between
+marks, and a paragraph of a usage text."""
 
 from __future__ import annotations
 
@@ -53,7 +54,8 @@ FORMS = {
     "code": ("Code", "one_code"),
 }
 QUESTIONS = ("Threads", "CodeOf", "NameOf")  # what a line may ask for that is no call on a session
-# What the function of thread_core gives, beside the variants of Body: a code, an answer or a refusal, values that it writes, and nothing for a run.
+# What the function of thread_core gives, beside the variants of Body: a code, an answer or a
+# refusal, values that it writes, and nothing for a run.
 CODE_ALONE, REFUSAL, VALUES, RUN = "code", "refusal", "values", "Ran"
 
 
@@ -111,12 +113,23 @@ def _fault_of(call: Call, above: list[Call]) -> str:
     """Which field of a line is bad, if one is."""
     for what, good in (
         ("word", WORD.fullmatch(call.word) and all(call.word != other.word for other in above)),
-        ("arguments", all(argument in ARGUMENTS for argument in call.arguments) and _has_form(call)),
-        ("variant", VARIANT.fullmatch(call.variant) and all(call.variant != other.variant for other in above)),
+        (
+            "arguments",
+            all(argument in ARGUMENTS for argument in call.arguments) and _has_form(call),
+        ),
+        (
+            "variant",
+            VARIANT.fullmatch(call.variant)
+            and all(call.variant != other.variant for other in above),
+        ),
         ("gives", call.gives in (CODE_ALONE, REFUSAL, VALUES) or VARIANT.fullmatch(call.gives)),
         ("papi", FUNCTIONS.fullmatch(" ".join(call.papi))),
         ("usage", SENTENCE.fullmatch(call.usage)),
-        ("replies", bool(call.replies) == (call.gives not in (CODE_ALONE, REFUSAL)) and "|" not in call.replies),
+        (
+            "replies",
+            bool(call.replies) == (call.gives not in (CODE_ALONE, REFUSAL))
+            and "|" not in call.replies,
+        ),
         ("refusals", SENTENCE.fullmatch(call.refusals)),
     ):
         if not good:
@@ -140,7 +153,10 @@ def read_calls(text: str) -> list[Call]:
         if len(fields) != 8:
             raise Fault(f"{TABLE}: line {number}: not eight fields")
         word, arguments, variant, gives, papi, usage, replies, refusals = fields
-        call = Call(word, tuple(arguments.split()), variant, gives, tuple(papi.split()), usage, replies, refusals)
+        call = Call(
+            word, tuple(arguments.split()), variant, gives, tuple(papi.split()), usage, replies,
+            refusals,
+        )
         if fault := _fault_of(call, calls):
             raise Fault(f"{TABLE}: line {number}: bad {fault}")
         calls.append(call)
@@ -166,21 +182,38 @@ def word_clauses(calls: list[Call]) -> list[str]:
 
 
 def variant_lines(calls: list[Call]) -> list[str]:
-    typed = [[f"{ARGUMENTS[argument].field}: {TYPES.get(argument, 'u32')}" for argument in call.arguments] for call in calls]
-    return [f"    {call.held(fields).removeprefix('Call::')}," for call, fields in zip(calls, typed) if not call.is_question]
+    typed = [
+        [
+            f"{ARGUMENTS[argument].field}: {TYPES.get(argument, 'u32')}"
+            for argument in call.arguments
+        ]
+        for call in calls
+    ]
+    return [
+        f"    {call.held(fields).removeprefix('Call::')}," for call, fields in zip(calls, typed)
+        if not call.is_question
+    ]
 
 
 def named_lines(calls: list[Call]) -> list[str]:
     dots = {True: " { .. }", False: ""}
-    return [f"            Call::{call.variant}{dots[bool(call.arguments)]} => CallName::{call.name}," for call in _on_session(calls)]
+    return [
+        f"            Call::{call.variant}{dots[bool(call.arguments)]} => CallName::{call.name},"
+        for call in _on_session(calls)
+    ]
 
 
 def name_clauses(calls: list[Call]) -> list[str]:
-    return [f"name_of_call {call.applied()} = name.{call.name}" for call in _on_session(calls)] + [""]
+    return [f"name_of_call {call.applied()} = name.{call.name}" for call in _on_session(calls)] + [
+        ""
+    ]
 
 
 def event_clauses(calls: list[Call]) -> list[str]:
-    return [f"call_with f {call.applied()} = {_bare(call.applied(event='(f e)'))}" for call in _on_session(calls)] + [""]
+    return [
+        f"call_with f {call.applied()} = {_bare(call.applied(event='(f e)'))}"
+        for call in _on_session(calls)
+    ] + [""]
 
 
 def _bare(text: str) -> str:
@@ -193,14 +226,20 @@ def form_clauses(calls: list[Call]) -> list[str]:
     for call in calls:
         made = call.applied() if not call.is_question else call.applied(module="asked")
         whole = f"asked.Call {made}" if not call.is_question else _bare(made)
-        whole = f"(λ {' '.join(call.fields)}. {whole})" if call.arguments else (f"({whole})" if " " in whole else whole)
+        whole = (
+            f"(λ {' '.join(call.fields)}. {whole})" if call.arguments
+            else (f"({whole})" if " " in whole else whole)
+        )
         rows.append(f"row name.{call.name} ({call.form[0]} {whole})")
     return [f"    {rows[0]}", *[f"    ∷ {row}" for row in rows[1:]], "    ∷ []"]
 
 
 def all_names(calls: list[Call]) -> list[str]:
     """A list of all names."""
-    return [f"const NAMES: [CallName; {len(calls)}] = [", *(f"    CallName::{call.name}," for call in calls), "];"]
+    return [
+        f"const NAMES: [CallName; {len(calls)}] = [",
+        *(f"    CallName::{call.name}," for call in calls), "];",
+    ]
 
 
 def eventless_lines(calls: list[Call]) -> list[str]:
@@ -219,7 +258,10 @@ def _eventless_arm(call: Call) -> list[str]:
         return [line]
     inner = [f"            {read}{made})"]
     if len(inner[0]) > WIDTH:
-        inner = [f"            {read}Asked::Call(Call::{call.variant} {{", *(f"                {field}," for field in call.fields), "            }))"]
+        inner = [
+            f"            {read}Asked::Call(Call::{call.variant} {{",
+            *(f"                {field}," for field in call.fields), "            }))",
+        ]
     return [f"        CallName::{call.name} => {{", *inner, "        }"]
 
 
@@ -231,9 +273,22 @@ def event_arms(calls: list[Call]) -> list[str]:
 def _event_arm(call: Call) -> list[str]:
     fields = [field if field != "e" else "event" for field in call.fields]
     copied = f"let event = Text::copy_of(alloc, {call.form[1]}(arguments)?)?;"
-    read = [f"let ({', '.join(fields)}) = {call.form[1]}(arguments)?;", "let e = Text::copy_of(alloc, event)?;"] if len(fields) > 1 else [copied]
-    made = f"Ok(Asked::{call.variant}(event))" if call.is_question else f"Ok(Asked::Call({call.held()}))"
-    return [f"        CallName::{call.name} => {{", *(f"            {line}" for line in (*read, made)), "        }"]
+    read = (
+        [
+            f"let ({', '.join(fields)}) = {call.form[1]}(arguments)?;",
+            "let e = Text::copy_of(alloc, event)?;",
+        ]
+        if len(fields) > 1
+        else [copied]
+    )
+    made = (
+        f"Ok(Asked::{call.variant}(event))" if call.is_question
+        else f"Ok(Asked::Call({call.held()}))"
+    )
+    return [
+        f"        CallName::{call.name} => {{", *(f"            {line}" for line in (*read, made)),
+        "        }",
+    ]
 
 
 def event_lines(calls: list[Call]) -> list[str]:
@@ -255,23 +310,39 @@ def event_lines(calls: list[Call]) -> list[str]:
 
 def answer_lines(calls: list[Call]) -> list[str]:
     """The arms of a match over calls, each of which the core makes."""
-    return [f"        {call.held()} => {_answer(call)}," if call.gives != RUN else f"        Call::{call.variant} {{ .. }} => unreachable!()," for call in _on_session(calls)]
+    return [
+        f"        {call.held()} => {_answer(call)}," if call.gives != RUN
+        else f"        Call::{call.variant} {{ .. }} => unreachable!(),"
+        for call in _on_session(calls)
+    ]
 
 
 def _answer(call: Call) -> str:
     """What the core makes of a call, as a reply."""
-    given = ["book", *(f"*{field}" if argument != "EVENT" else field for field, argument in zip(call.fields, call.arguments))]
+    given = [
+        "book",
+        *(
+            f"*{field}" if argument != "EVENT" else field
+            for field, argument in zip(call.fields, call.arguments)
+        ),
+    ]
     if call.gives == VALUES:
         return f"{call.method}(core, {', '.join(given)})"
     made = f"core.{call.method}({', '.join(given)})"
     if call.gives == CODE_ALONE:
         return f"plain({made})"
-    return f"changed_reply({made})" if call.gives == REFUSAL else f"reply({made}.map(Body::{call.gives}))"
+    return (
+        f"changed_reply({made})" if call.gives == REFUSAL
+        else f"reply({made}.map(Body::{call.gives}))"
+    )
 
 
 def usage_lines(calls: list[Call]) -> list[str]:
     """A line for each call, with PAPI's functions of it."""
-    return [f"  {' '.join((call.word, *call.arguments)):<31} {call.usage}{_functions(call)}" for call in calls]
+    return [
+        f"  {' '.join((call.word, *call.arguments)):<31} {call.usage}{_functions(call)}"
+        for call in calls
+    ]
 
 
 def _functions(call: Call) -> str:
@@ -281,7 +352,10 @@ def _functions(call: Call) -> str:
 def argument_lines(calls: list[Call]) -> list[str]:
     """A dictionary of what each call takes."""
     pairs = [f'"{call.word}":~{_tuple(call.arguments)},' for call in calls]
-    return ["CALLS: dict[str, tuple[str, ...]] = {", *[line.replace("~", " ") for line in filled(pairs, 140)], "}"]
+    return [
+        "CALLS: dict[str, tuple[str, ...]] = {",
+        *[line.replace("~", " ") for line in filled(pairs, 140)], "}",
+    ]
 
 
 def _tuple(words: tuple[str, ...]) -> str:
@@ -300,7 +374,10 @@ def rule_lines(calls: list[Call]) -> list[str]:
 
 def call_rows(calls: list[Call]) -> list[str]:
     """A table of the calls for people: what each takes, and what the reply has."""
-    return ["| Call | Arguments | After `PAPI_OK` the reply has |", "|---|---|---|", *(f"| `{call.word}` |{_cell(_taken(call))}|{_cell(call.replies)}|" for call in calls)]
+    return [
+        "| Call | Arguments | After `PAPI_OK` the reply has |", "|---|---|---|",
+        *(f"| `{call.word}` |{_cell(_taken(call))}|{_cell(call.replies)}|" for call in calls),
+    ]
 
 
 def _cell(text: str) -> str:
@@ -308,7 +385,10 @@ def _cell(text: str) -> str:
 
 
 def _taken(call: Call) -> str:
-    return " ".join(f"{argument} ({ARGUMENTS[argument].note})" if ARGUMENTS[argument].note else argument for argument in call.arguments)
+    return " ".join(
+        f"{argument} ({ARGUMENTS[argument].note})" if ARGUMENTS[argument].note else argument
+        for argument in call.arguments
+    )
 
 
 def refusal_rows(calls: list[Call]) -> list[str]:
@@ -316,7 +396,14 @@ def refusal_rows(calls: list[Call]) -> list[str]:
     words: dict[str, list[str]] = {}
     for call in calls:
         words.setdefault(call.refusals, []).append(f"`{call.word}`")
-    return ["| Call | Refusals in order |", "|---|---|", *(f"| {', '.join(names)} | {CODE.sub(lambda code: f'`{code[0]}`', refusals)} |" for refusals, names in words.items())]
+    return [
+        "| Call | Refusals in order |",
+        "|---|---|",
+        *(
+            f"| {', '.join(names)} | {CODE.sub(lambda code: f'`{code[0]}`', refusals)} |"
+            for refusals, names in words.items()
+        ),
+    ]
 
 
 # The files, the names of their regions, and what stands there.
@@ -326,7 +413,11 @@ REGIONS: dict[str, dict[str, Callable[[list[Call]], list[str]]]] = {
     "crates/call_type/src/call.rt": {"variants": variant_lines, "names": named_lines},
     "crates/call_type/specs/Calls.antt": {"names": name_clauses, "events": event_clauses},
     "crates/script_lines/specs/Calls.antt": {"": form_clauses},
-    "crates/script_lines/src/asked.rt": {"names": all_names, "arms": eventless_lines, "events": event_arms},
+    "crates/script_lines/src/asked.rt": {
+        "names": all_names,
+        "arms": eventless_lines,
+        "events": event_arms,
+    },
     "crates/script_runner/src/asking.rt": {"": event_lines},
     "crates/thread_session/src/answers.rt": {"": answer_lines},
     "bin/hints/formats/scripts.py": {"": argument_lines},
@@ -339,7 +430,9 @@ USAGE, ABOVE_CALLS = "bin/usage/papi_run", "Beside each call stands PAPI's:"
 def with_usage(name: str, text: str, lines: list[str]) -> str:
     """A usage text with these lines of calls: a paragraph below its line that says so."""
     paragraphs = text.split("\n\n")
-    above = [place for place, paragraph in enumerate(paragraphs[:-1]) if paragraph.endswith(ABOVE_CALLS)]
+    above = [
+        place for place, paragraph in enumerate(paragraphs[:-1]) if paragraph.endswith(ABOVE_CALLS)
+    ]
     if len(above) != 1:
         raise Fault(f"{name}: not one line that ends: {ABOVE_CALLS}")
     paragraphs[above[0] + 1] = "\n".join(lines)

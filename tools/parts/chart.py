@@ -1,4 +1,5 @@
-"""A bar chart of a profile as SVG: a bar for each function, the hottest first, readable on light and dark pages."""
+"""A bar chart of a profile as SVG: a bar for each function, the hottest first, readable on light
+and dark pages."""
 
 from __future__ import annotations
 
@@ -37,12 +38,23 @@ class Bar:
 
 
 def bars_of(profile: Profile) -> list[Bar]:
-    """The functions that have hits, the hottest first, then those that have no bar of their own, then what is outside."""
-    hit = sorted((function for function in profile.functions if function.hits), key=lambda function: -function.hits)
-    bars = [Bar(function.name, function.hits, _hottest(function), "bar") for function in hit[:MOST_BARS]]
+    """The functions that have hits, the hottest first, then those that have no bar of their own,
+    then what is outside."""
+    hit = sorted(
+        (function for function in profile.functions if function.hits),
+        key=lambda function: -function.hits,
+    )
+    bars = [
+        Bar(function.name, function.hits, _hottest(function), "bar") for function in hit[:MOST_BARS]
+    ]
     others = hit[MOST_BARS:]
     if others:
-        bars.append(Bar(counted(len(others), "other function"), sum(function.hits for function in others), "", "rest"))
+        bars.append(
+            Bar(
+                counted(len(others), "other function"), sum(function.hits for function in others),
+                "", "rest",
+            )
+        )
     if profile.outside:
         bars.append(Bar("outside the map", profile.outside, "", "rest"))
     return bars
@@ -61,9 +73,14 @@ def draw(profile: Profile, title: str) -> str:
     bars = bars_of(profile)
     height = HEADING + ROW * max(len(bars), 1) + MARGIN
     idle = sum(not function.hits for function in profile.functions)
-    subtitle = counted(profile.total, "overflow") + (f", none in {counted(idle, 'other function')}" if idle else "")
+    subtitle = counted(profile.total, "overflow") + (
+        f", none in {counted(idle, 'other function')}" if idle else ""
+    )
     lines = [
-        f'<svg xmlns="http://www.w3.org/2000/svg" width="{WIDTH}" height="{height}" viewBox="0 0 {WIDTH} {height}" role="img">',
+        (
+            f'<svg xmlns="http://www.w3.org/2000/svg" width="{WIDTH}" height="{height}" viewBox="0 '
+            f'0 {WIDTH} {height}" role="img">'
+        ),
         f"<title>{xml_text(title)}</title>",
         f"<style>{STYLE}</style>",
         f'<rect class="page" width="{WIDTH}" height="{height}" rx="6"/>',
@@ -84,9 +101,24 @@ def _row(bar: Bar, total: int, top: int) -> list[str]:
     name_class = "name" if bar.kind == "bar" else "quiet"
     return [
         f"<g><title>{xml_text(f'{bar.name}: {label}')}</title>",
-        f'<text class="{name_class}" x="{BAR_START - 12}" y="{middle:g}" text-anchor="end">{xml_text(name)}</text>',
-        f'<rect class="track" x="{BAR_START}" y="{bar_top:g}" width="{BAR_ROOM}" height="{BAR}" rx="3"/>',
-        f'<rect class="{bar.kind}" x="{BAR_START}" y="{bar_top:g}" width="{max(length, 1):.1f}" height="{BAR}" rx="3"/>',
-        f'<text class="name" x="{BAR_START + BAR_ROOM + 12}" y="{middle:g}">{share(bar.hits, total)}</text>',
-        f'<text class="quiet" x="{WIDTH - MARGIN}" y="{middle:g}" text-anchor="end">{xml_text(bar.note)}</text></g>',
+        (
+            f'<text class="{name_class}" x="{BAR_START - 12}" y="{middle:g}" '
+            f'text-anchor="end">{xml_text(name)}</text>'
+        ),
+        (
+            f'<rect class="track" x="{BAR_START}" y="{bar_top:g}" width="{BAR_ROOM}" '
+            f'height="{BAR}" rx="3"/>'
+        ),
+        (
+            f'<rect class="{bar.kind}" x="{BAR_START}" y="{bar_top:g}" '
+            f'width="{max(length, 1):.1f}" height="{BAR}" rx="3"/>'
+        ),
+        (
+            f'<text class="name" x="{BAR_START + BAR_ROOM + 12}" '
+            f'y="{middle:g}">{share(bar.hits, total)}</text>'
+        ),
+        (
+            f'<text class="quiet" x="{WIDTH - MARGIN}" y="{middle:g}" '
+            f'text-anchor="end">{xml_text(bar.note)}</text></g>'
+        ),
     ]

@@ -1,4 +1,5 @@
-"""Which codes the lines of a recording have, by the unit whose events are to count it (docs/RECORDING.md, Codes)."""
+"""Which codes the lines of a recording have, by the unit whose events are to count it
+(docs/RECORDING.md, Codes)."""
 
 from __future__ import annotations
 
@@ -27,15 +28,20 @@ class Native:
 
 @dataclass(frozen=True)
 class Codes:
-    """The codes of a unit's lines: those of its table of quantities, or those of examples/recorded.unit, which the tool of Valgrind knows itself."""
+    """The codes of a unit's lines: those of its table of quantities, or those of
+    examples/recorded.unit, which the tool of Valgrind knows itself."""
 
     pmu: str
     lines: tuple[tuple[str, tuple[Code, ...]], ...] = ()
-    rowless: tuple[str, ...] = ()  # events of the unit that the table has no row for, and no line a code
+    # events of the unit that the table has no row for, and no line a code
+    rowless: tuple[str, ...] = ()
 
     def text(self) -> str:
         """As the tool of Valgrind reads them. Empty for those that it knows."""
-        return ",".join(f"{quantity}:" + "+".join(f"{select:02x}{mask:02x}" for select, mask in codes) for quantity, codes in self.lines)
+        return ",".join(
+            f"{quantity}:" + "+".join(f"{select:02x}{mask:02x}" for select, mask in codes)
+            for quantity, codes in self.lines
+        )
 
     def tool_words(self) -> list[str]:
         return [f"--codes={self.text()}"] if self.lines else []
@@ -56,7 +62,8 @@ def _rows(text: str) -> Iterator[list[str]]:
 
 
 def _first_component(text: str) -> tuple[str, list[Native]]:
-    """Its pmu and its events, as far as the rows are right: whoever reads the unit says what is wrong with it."""
+    """Its pmu and its events, as far as the rows are right: whoever reads the unit says what is
+    wrong with it."""
     pmu, natives = "", []
     event, select = "", 0
     for kind, *fields in _rows(text):
@@ -78,7 +85,8 @@ def _first_component(text: str) -> tuple[str, list[Native]]:
 
 
 def codes_of(unit: str) -> Codes:
-    """The codes for a unit file. A fault if an event of it would count what another one does, or has a code of the processor itself."""
+    """The codes for a unit file. A fault if an event of it would count what another one does, or
+    has a code of the processor itself."""
     pmu, natives = _first_component(read_file(unit))
     table = tables().get(pmu.lower())
     if table is None:
@@ -89,16 +97,22 @@ def codes_of(unit: str) -> Codes:
     for native in natives:
         code = table.code(native.event, native.umask)
         if code is None and native.code[0] in taken:
-            raise Fault(f"{unit}: {native.name()} has no row in the table of {pmu}, and its code is that of other events: {_advice(pmu)}")
+            raise Fault(
+                f"{unit}: {native.name()} has no row in the table of {pmu}, and its code is that "
+                f"of other events: {_advice(pmu)}"
+            )
         if code is None:
             rowless.append(native.name())
         elif code != native.code:
-            raise Fault(f"{unit}: {native.name()} has a code of the processor itself: {_advice(pmu)}")
+            raise Fault(
+                f"{unit}: {native.name()} has a code of the processor itself: {_advice(pmu)}"
+            )
     return Codes(pmu, lines, tuple(rowless))
 
 
 def name_rowless(unit: str, is_strict: bool) -> None:
-    """A line on standard error that names the events of a unit for which the processor's table has no row, so that they count nothing; a fault with --strict."""
+    """A line on standard error that names the events of a unit for which the processor's table has
+    no row, so that they count nothing; a fault with --strict."""
     codes = codes_of(unit)
     if not codes.rowless:
         return
@@ -122,6 +136,7 @@ def _recorded_codes(unit: str, pmu: str, natives: Iterable[Native]) -> Codes:
         select, mask = native.code
         if select not in bits or mask & ~bits[select]:
             known = " ".join(sorted(tables()))
-            raise Fault(f"{unit}: {native.name()} has a code that examples/recorded.unit has not, and there is no table of what is counted for the events of {pmu}; "
+            raise Fault(f"{unit}: {native.name()} has a code that examples/recorded.unit has not, "
+                        f"and there is no table of what is counted for the events of {pmu}; "
                         f"there are tables for {known}")
     return Codes(pmu)

@@ -21,16 +21,25 @@ MOST_BYTES = 1 << 27  # of a file that is read as a whole
 LONGEST_LINE = 1 << 20  # bytes, of standard input
 MOMENT = 0.5  # seconds in which a signal to all of a job has come to each
 SOON = 0.01  # seconds
-# All that end a process, but for those that can't be caught, that Python ignores, or that tell of a fault of its own.
+# All that end a process, but for those that can't be caught, that Python ignores, or that tell of a
+# fault of its own.
 ENDING_SIGNALS = tuple(sorted(
-    signal.valid_signals() - {signal.SIGKILL, signal.SIGSTOP, signal.SIGTSTP, signal.SIGTTIN, signal.SIGTTOU, signal.SIGCHLD, signal.SIGCONT, signal.SIGURG, signal.SIGWINCH}
+    signal.valid_signals()
+    - {
+        signal.SIGKILL, signal.SIGSTOP, signal.SIGTSTP, signal.SIGTTIN, signal.SIGTTOU,
+        signal.SIGCHLD, signal.SIGCONT, signal.SIGURG, signal.SIGWINCH,
+    }
     - {signal.SIGPIPE, signal.SIGXFSZ}
-    - {signal.SIGILL, signal.SIGTRAP, signal.SIGABRT, signal.SIGBUS, signal.SIGFPE, signal.SIGSEGV, signal.SIGSYS}
+    -{
+        signal.SIGILL, signal.SIGTRAP, signal.SIGABRT, signal.SIGBUS, signal.SIGFPE, signal.SIGSEGV,
+        signal.SIGSYS,
+    }
 ))
 
 
 class Fault(Exception):
-    """Input that a tool cannot use. Its text is the line on standard error, after which more lines of another program may come, and the tool ends with its status."""
+    """Input that a tool cannot use. Its text is the line on standard error, after which more lines
+    of another program may come, and the tool ends with its status."""
 
     def __init__(self, text: str, status: int = 1, more: Sequence[str] = ()):
         super().__init__(text)
@@ -78,8 +87,9 @@ def _end_again(lost: sys.UnraisableHookArgs) -> None:
 
 
 def end_by_termination() -> None:
-    """From now on any signal that ends the process does so with a status, so that what it has started and made ends too. One that is ignored stays so, and
-    while the process ends no other one comes in between."""
+    """From now on any signal that ends the process does so with a status, so that what it has
+    started and made ends too. One that is ignored stays so, and while the process ends no other one
+    comes in between."""
     sys.unraisablehook = _end_again
     for number in ENDING_SIGNALS:
         if signal.getsignal(number) != signal.SIG_IGN:
@@ -87,15 +97,17 @@ def end_by_termination() -> None:
 
 
 def heed_signal(status: int) -> None:
-    """What this process waited for has ended with a status, or by a signal whose number is below 0. One that ended it may be for all of a job, and come here a moment later:
-    then this process ends by it too, and says nothing of what it waited for."""
+    """What this process waited for has ended with a status, or by a signal whose number is below 0.
+    One that ended it may be for all of a job, and come here a moment later: then this process ends
+    by it too, and says nothing of what it waited for."""
     if (-status if status < 0 else status - BY_SIGNAL) in ENDING_SIGNALS:
         time.sleep(MOMENT)
 
 
 @contextmanager
 def uninterrupted() -> Iterator[None]:
-    """A signal to end that comes in this block acts at its end: what the block begins is known then, and can be ended."""
+    """A signal to end that comes in this block acts at its end: what the block begins is known
+    then, and can be ended."""
     _Signal.depth += 1
     try:
         yield
@@ -125,33 +137,41 @@ class _Errors(io.FileIO):
 
 
 def _open_closed(number: int) -> None:
-    """Puts something into the place of a standard stream that is closed, so that no file that is opened later gets its number: input and output fail as
-    a closed one does, and what goes to standard error is lost."""
+    """Puts something into the place of a standard stream that is closed, so that no file that is
+    opened later gets its number: input and output fail as a closed one does, and what goes to
+    standard error is lost."""
     try:
         os.fstat(number)
         return
     except OSError:
-        opened = os.open(os.devnull, os.O_RDONLY if number == 1 else os.O_WRONLY)  # (it is the lowest number that is free)
+        # (it is the lowest number that is free)
+        opened = os.open(os.devnull, os.O_RDONLY if number == 1 else os.O_WRONLY)
     os.set_inheritable(opened, True)
 
 
 def settle_streams() -> None:
-    """Standard input and output are texts in UTF-8, whatever the locale is. Bytes of a name that are none go out as they came in. A closed stream fails when
-    it is used."""
+    """Standard input and output are texts in UTF-8, whatever the locale is. Bytes of a name that
+    are none go out as they came in. A closed stream fails when it is used."""
     for number in range(3):
         _open_closed(number)
     if sys.stdin is None or sys.stdin is sys.__stdin__:
         sys.stdin = open(0, encoding="utf-8", closefd=False)
     if sys.stdout is None or sys.stdout is sys.__stdout__:
         output = io.BufferedWriter(_Output(1, "w", closefd=False))
-        sys.stdout = io.TextIOWrapper(output, encoding="utf-8", errors="surrogateescape", line_buffering=output.isatty())
+        sys.stdout = io.TextIOWrapper(
+            output, encoding="utf-8", errors="surrogateescape", line_buffering=output.isatty()
+        )
     if sys.stderr is None or sys.stderr is sys.__stderr__:
         encoding = sys.stderr.encoding if sys.stderr is not None else "utf-8"
-        sys.stderr = io.TextIOWrapper(io.BufferedWriter(_Errors(2, "w", closefd=False)), encoding=encoding, errors="backslashreplace", line_buffering=True)
+        sys.stderr = io.TextIOWrapper(
+            io.BufferedWriter(_Errors(2, "w", closefd=False)), encoding=encoding,
+            errors="backslashreplace", line_buffering=True,
+        )
 
 
 def _drop_output() -> None:
-    """What standard output could not take goes nowhere. Python would try once more at its end, and complain."""
+    """What standard output could not take goes nowhere. Python would try once more at its end, and
+    complain."""
     with suppress(OSError):
         nowhere = os.open(os.devnull, os.O_WRONLY)
         os.dup2(nowhere, sys.stdout.fileno())
@@ -161,7 +181,10 @@ def _drop_output() -> None:
 def _why(error: OSError) -> str:
     """What failed, and how."""
     reason = error.strerror or str(error) or type(error).__name__
-    return f"{os.fsdecode(error.filename)}: {reason}" if isinstance(error.filename, (str, bytes)) and error.filename else reason
+    return (
+        f"{os.fsdecode(error.filename)}: {reason}"
+        if isinstance(error.filename, (str, bytes)) and error.filename else reason
+    )
 
 
 def tell(what: object, tool: str | None = None) -> None:
@@ -209,7 +232,8 @@ def _status_of(tool: str, work: Callable[[], None]) -> int:
 
 
 def end_with(tool: str, work: Callable[[], None]) -> None:
-    """Does the work and ends the process: 0, or another status with one line on standard error. Words that are read in the work may end it too."""
+    """Does the work and ends the process: 0, or another status with one line on standard error.
+    Words that are read in the work may end it too."""
     settle_streams()
     end_by_termination()
     status = _status_of(tool, work)
@@ -258,7 +282,8 @@ class Progress:
 
 
 def read_found(name: str | os.PathLike[str], most: int = MOST_BYTES) -> bytes:
-    """What a file has that a folder or another file names, or the fault that says why it is not read: it can't be, it is not regular, or it has more bytes than these."""
+    """What a file has that a folder or another file names, or the fault that says why it is not
+    read: it can't be, it is not regular, or it has more bytes than these."""
     try:
         return files.content(name, most)
     except files.Unread as unread:
@@ -298,7 +323,8 @@ def is_text_of(path: Path, text: str) -> bool:
 
 
 def input_lines(most: int | None = None) -> Iterator[bytes]:
-    """The lines of standard input with their ends, and at most so many bytes of them in all if a number is given. A fault says why there are none."""
+    """The lines of standard input with their ends, and at most so many bytes of them in all if a
+    number is given. A fault says why there are none."""
     number = size = 0
     while True:
         number += 1
@@ -308,7 +334,10 @@ def input_lines(most: int | None = None) -> Iterator[bytes]:
             raise Fault(f"standard input: {error.strerror}") from None
         size += len(line)
         if len(line) > LONGEST_LINE or most is not None and size > most:
-            raise Fault(f"standard input: line {number}: too {'long' if len(line) > LONGEST_LINE else 'many'}")
+            raise Fault(
+                f"standard input: line {number}: too "
+                f"{'long' if len(line) > LONGEST_LINE else 'many'}"
+            )
         if not line:
             return
         yield line

@@ -50,13 +50,23 @@ def parser_of(program: Path) -> argparse.ArgumentParser:
 
 def command_section(parser: argparse.ArgumentParser, page: Page) -> list[str]:
     """The section of a program in docs/TOOLS.md."""
-    lines = [f"## {parser.prog}", "", f"    {parser.prog} {page.line}", "", parser.description or "", ""]
+    lines = [
+        f"## {parser.prog}", "", f"    {parser.prog} {page.line}", "", parser.description or "", "",
+    ]
     for number, group in enumerate(parser._action_groups):
-        rows = [f"| `{cell(_plain_word(action))}` | {cell((action.help or '').replace('%%', '%'))} |" for action in group._group_actions if action.help and action.dest != "help"]
+        rows = [
+            f"| `{cell(_plain_word(action))}` | {cell((action.help or '').replace('%%', '%'))} |"
+            for action in group._group_actions if action.help and action.dest != "help"
+        ]
         title = str(group.title) if number >= len(OWN_TITLES) else page.titles[number]
         if rows:
-            lines += [f"{title[0].upper()}{title[1:]}:", "", "| Word | Meaning |", "|---|---|", *rows, ""]
-    lines += ["| Status | What it means |", "|---|---|", *(f"| {number} | {meaning} |" for number, meaning in page.statuses), ""]
+            lines += [
+                f"{title[0].upper()}{title[1:]}:", "", "| Word | Meaning |", "|---|---|", *rows, "",
+            ]
+    lines += [
+        "| Status | What it means |", "|---|---|",
+        *(f"| {number} | {meaning} |" for number, meaning in page.statuses), "",
+    ]
     for title, command in page.examples:
         lines += [title, "", "```sh", command, "```", ""]
     return lines
@@ -72,7 +82,9 @@ def _word(action: argparse.Action) -> str:
     """An option with its value, or a word, by mdoc's macros."""
     name = max(action.option_strings, key=len, default="")
     value = str(action.metavar or "|".join(action.choices or ()))
-    macros = ["Fl " + name[1:].replace("-", "\\-")] * bool(name) + ["Ar " + value.replace("|", "\\||")] * bool(value)
+    macros = ["Fl " + name[1:].replace("-", "\\-")] * bool(name) + [
+        "Ar " + value.replace("|", "\\||")
+    ] * bool(value)
     return " ".join(macros)
 
 
@@ -91,7 +103,10 @@ def _listed(items: list[str]) -> list[str]:
 def command_page(parser: argparse.ArgumentParser, page: Page, date: str) -> str:
     name = parser.prog
     lines = [
-        '.\\" Made by tools/make_pages out of the words of the tool. Change those, and run it again.',
+        (
+            '.\\" Made by tools/make_pages out of the words of the tool. Change those, and run it '
+            'again.'
+        ),
         f".Dd {date}",
         f".Dt {name.upper()} 1",
         ".Os",
@@ -104,12 +119,26 @@ def command_page(parser: argparse.ArgumentParser, page: Page, date: str) -> str:
         ".Sh DESCRIPTION",
         *sentences(parser.description or ""),
     ]
-    for number, group in enumerate(parser._action_groups):  # the first two are argparse's own, and each version of Python has other titles for them
+    # the first two are argparse's own, and each version of Python has other titles for them
+    for number, group in enumerate(parser._action_groups):
         title = str(group.title) if number >= len(OWN_TITLES) else page.titles[number]
-        lines += [".Pp", *sentences(f"{title[0].upper()}{title[1:]}:"), *_listed(list(_items(group._group_actions)))]
-    lines += [".Sh EXIT STATUS", *_listed([line for number, meaning in page.statuses for line in (f".It {number}", *sentences(meaning))])]
+        lines += [
+            ".Pp", *sentences(f"{title[0].upper()}{title[1:]}:"),
+            *_listed(list(_items(group._group_actions))),
+        ]
+    lines += [
+        ".Sh EXIT STATUS",
+        *_listed(
+            [
+                line for number, meaning in page.statuses
+                for line in (f".It {number}", *sentences(meaning))
+            ]
+        ),
+    ]
     lines += [".Sh EXAMPLES"]
     for number, (title, command) in enumerate(page.examples):
-        lines += [".Pp"] * (number > 0) + [*sentences(title), ".Bd -literal -offset indent", escaped(f"$ {command}"), ".Ed"]
+        lines += [".Pp"] * (number > 0) + [
+            *sentences(title), ".Bd -literal -offset indent", escaped(f"$ {command}"), ".Ed",
+        ]
     lines += [".Sh SEE ALSO", page.see]
     return "\n".join(lines) + "\n"

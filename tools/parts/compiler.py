@@ -19,14 +19,20 @@ def compiler() -> list[str]:
     return os.environ.get("CC", "").split() or ["cc"]
 
 
-def run_group(command: Sequence[str], number: int = signal.SIGTERM, text: str = "", **how: Any) -> subprocess.CompletedProcess[str]:
-    """A command with this standard input, and what it says. What it has started ends with it, whatever ends it, and the signal ends it if this process is killed.
-    `how` goes to subprocess.Popen."""
+def run_group(
+    command: Sequence[str], number: int = signal.SIGTERM, text: str = "", **how: Any
+) -> subprocess.CompletedProcess[str]:
+    """A command with this standard input, and what it says. What it has started ends with it,
+    whatever ends it, and the signal ends it if this process is killed. `how` goes to
+    subprocess.Popen."""
     child: subprocess.Popen[str] | None = None
     try:
         with uninterrupted():
-            child = subprocess.Popen(command, stdin=subprocess.PIPE, stdout=subprocess.PIPE, stderr=subprocess.PIPE, text=True, encoding="utf-8", errors="replace",
-                                     start_new_session=True, preexec_fn=ends_with_parent(number), **how)
+            child = subprocess.Popen(
+                command, stdin=subprocess.PIPE, stdout=subprocess.PIPE, stderr=subprocess.PIPE,
+                text=True, encoding="utf-8", errors="replace", start_new_session=True,
+                preexec_fn=ends_with_parent(number), **how,
+            )
         out, err = child.communicate(text)
     except BaseException:
         if child is not None:
@@ -37,7 +43,8 @@ def run_group(command: Sequence[str], number: int = signal.SIGTERM, text: str = 
 
 
 def run_compiler(*words: str, text: str = "") -> subprocess.CompletedProcess[str]:
-    """The compiler with these words and this standard input, and what it says. A fault if it can't be run."""
+    """The compiler with these words and this standard input, and what it says. A fault if it can't
+    be run."""
     command = [*compiler(), *words]
     try:
         return run_group(command, text=text)
@@ -46,7 +53,8 @@ def run_compiler(*words: str, text: str = "") -> subprocess.CompletedProcess[str
 
 
 def _end(child: subprocess.Popen[str]) -> None:
-    """Ends a command and what it has started. At first they may remove what they have made. Nothing is read any more: what was interrupted may have begun with that."""
+    """Ends a command and what it has started. At first they may remove what they have made. Nothing
+    is read any more: what was interrupted may have begun with that."""
     for number in (signal.SIGTERM, signal.SIGKILL):
         with suppress(ProcessLookupError, subprocess.TimeoutExpired):
             os.killpg(child.pid, number)

@@ -1,4 +1,5 @@
-"""docs/COUNTED.md: what is counted for each event of a real processor, out of the tables of tools/processors."""
+"""docs/COUNTED.md: what is counted for each event of a real processor, out of the tables of
+tools/processors."""
 
 from __future__ import annotations
 
@@ -41,15 +42,24 @@ def _gathered(table: Table) -> list[list[Row]]:
 
 
 def _section(table: Table) -> list[str]:
-    rows = [(_names(rows), ", ".join(f"`{word}`" for word in rows[0].words.split()), rows[0].otherwise) for rows in _gathered(table)]
+    rows = [
+        (_names(rows), ", ".join(f"`{word}`" for word in rows[0].words.split()), rows[0].otherwise)
+        for rows in _gathered(table)
+    ]
     pmus = ", ".join(f"`{pmu}`" for pmu in table.pmus)
     return ["", f"## {table.title}", "", f"Of {pmus}.", "", *_table(COLUMNS, rows)]
 
 
 def _quantities(quantities: Quantities) -> list[str]:
     meanings = [(f"`{name}`", text) for name, text in quantities.meanings.items()]
-    sums = [(f"`{name}`", ", ".join(f"`{part}`" for part in parts)) for name, parts in quantities.sums.items()]
-    return [HEAD, *_table(("Quantity", "One occurrence is"), meanings), SUMS, *_table(("Sum", "Of"), sums), "", NEVER]
+    sums = [
+        (f"`{name}`", ", ".join(f"`{part}`" for part in parts))
+        for name, parts in quantities.sums.items()
+    ]
+    return [
+        HEAD, *_table(("Quantity", "One occurrence is"), meanings), SUMS,
+        *_table(("Sum", "Of"), sums), "", NEVER,
+    ]
 
 
 def counted_page() -> str:

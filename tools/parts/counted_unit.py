@@ -1,4 +1,5 @@
-"""The unit that a program is counted over: the events of a real processor that the modelled machine has quantities for, with codes of their own (docs/RECORDING.md, Codes)."""
+"""The unit that a program is counted over: the events of a real processor that the modelled machine
+has quantities for, with codes of their own (docs/RECORDING.md, Codes)."""
 
 from __future__ import annotations
 
@@ -15,7 +16,10 @@ WHY = "nothing that the model counts is counted by it"
 def table_of(pmu: str) -> Table:
     table = tables().get(pmu)
     if table is None:
-        raise Fault(f"--counted: there is no table of what is counted for the events of {pmu}; there are tables for {' '.join(sorted(tables()))}")
+        raise Fault(
+            f"--counted: there is no table of what is counted for the events of {pmu}; there are "
+            f"tables for {' '.join(sorted(tables()))}"
+        )
     return table
 
 

@@ -178,7 +178,10 @@ def _changes(counting: Counting) -> dict[str, str]:
     }
     changes[CODES] = codes_of(changes["KISTALUB_UNIT"]).variable()
     if counting.library:
-        paths = [valgrind.of_one_length(str(Path(counting.library).resolve())), *filter(None, [os.environ.get("LD_LIBRARY_PATH")])]
+        paths = [
+            valgrind.of_one_length(str(Path(counting.library).resolve())),
+            *filter(None, [os.environ.get("LD_LIBRARY_PATH")]),
+        ]
         changes["LD_LIBRARY_PATH"] = ":".join(paths)
     return changes
 

@@ -15,7 +15,8 @@ LINE_WIDTH = 10  # the room of a line that passes a level
 
 
 def read_crates(path: Path) -> dict[str, list[str]]:
-    """Each crate with the crates of the repository that it cites, in alphabetical order. Crates of the kit are left out."""
+    """Each crate with the crates of the repository that it cites, in alphabetical order. Crates of
+    the kit are left out."""
     cited: dict[str, list[str]] = {}
     for number, line in enumerate(read_file(str(path)).split("\n"), start=1):
         head, colon, tail = line.partition("#")[0].partition(":")
@@ -31,7 +32,9 @@ def upwards(cited: dict[str, list[str]]) -> list[str]:
     try:
         return list(TopologicalSorter(cited).static_order())
     except CycleError as error:
-        raise Fault(f"crates that cite one another in a ring: {', '.join(sorted(set(error.args[1])))}") from None
+        raise Fault(
+            f"crates that cite one another in a ring: {', '.join(sorted(set(error.args[1])))}"
+        ) from None
 
 
 def below(cited: dict[str, list[str]]) -> dict[str, set[str]]:
@@ -45,7 +48,10 @@ def below(cited: dict[str, list[str]]) -> dict[str, set[str]]:
 def nearest(cited: dict[str, list[str]]) -> dict[str, list[str]]:
     """What each crate cites, without what it reaches through another one that it cites."""
     reached = below(cited)
-    return {name: [other for other in uses if not any(other in reached[between] for between in uses)] for name, uses in cited.items()}
+    return {
+        name: [other for other in uses if not any(other in reached[between] for between in uses)]
+        for name, uses in cited.items()
+    }
 
 
 def levels(cited: dict[str, list[str]]) -> dict[str, int]:
@@ -74,7 +80,8 @@ class Node:
 @dataclass
 class Layout:
     rows: list[list[Node]]
-    chains: list[list[Node]]  # for each line its nodes, from the crate that cites to the one that is cited
+    # for each line its nodes, from the crate that cites to the one that is cited
+    chains: list[list[Node]]
     width: float
 
 
@@ -96,7 +103,9 @@ def lay_out(cited: dict[str, list[str]]) -> Layout:
 
 
 def _chain(upper: Node, lower: Node) -> list[Node]:
-    chain = [upper] + [Node("", level) for level in range(upper.level - 1, lower.level, -1)] + [lower]
+    chain = (
+        [upper] + [Node("", level) for level in range(upper.level - 1, lower.level, -1)] + [lower]
+    )
     for one, next_one in zip(chain, chain[1:]):
         one.down.append(next_one)
         next_one.up.append(one)
@@ -104,13 +113,17 @@ def _chain(upper: Node, lower: Node) -> list[Node]:
 
 
 def _order(rows: list[list[Node]]) -> None:
-    """Orders each row by the mean place of what its nodes hang on, from below and from above in turn."""
+    """Orders each row by the mean place of what its nodes hang on, from below and from above in
+    turn."""
     for sweep in range(SWEEPS):
         downward = sweep % 2 == 1
         for row in reversed(rows) if downward else rows:
             for place, node in enumerate(row):
                 near = node.up if downward else node.down
-                node.x = _mean([_fraction(rows, other) for other in near]) if near else place / max(len(row) - 1, 1)
+                node.x = (
+                    _mean([_fraction(rows, other) for other in near]) if near
+                    else place / max(len(row) - 1, 1)
+                )
             row.sort(key=lambda node: node.x)
 
 
@@ -140,7 +153,8 @@ def _place(rows: list[list[Node]]) -> float:
 
 
 def _settle(row: list[Node], wanted: list[float], width: float) -> None:
-    """Moves the nodes of a row towards where they want to be, in their order, with their gaps, and inside the width."""
+    """Moves the nodes of a row towards where they want to be, in their order, with their gaps, and
+    inside the width."""
     low, at = [], 0.0
     for node, want in zip(row, wanted):
         at = max(want, at + node.width / 2 + BOX_GAP / 2)

@@ -14,13 +14,20 @@ LEVEL = 62  # from one level to the next
 GROUPS = {
     "base": ("papi_base",),
     "tables, names, presets": (
-        "table_rows", "event_tables", "name_encoder", "postfix_rules", "preset_csv", "user_events", "component_table",
+        "table_rows", "event_tables", "name_encoder", "postfix_rules", "preset_csv", "user_events",
+        "component_table",
     ),
-    "counters and sets": ("counter_alloc", "counter_unit", "multiplex", "overflow_dispatch", "event_sets"),
+    "counters and sets": (
+        "counter_alloc", "counter_unit", "multiplex", "overflow_dispatch", "event_sets",
+    ),
     "meaning of calls": ("session_model", "call_laws"),
-    "threads and workers": ("stream_reader", "thread_slots", "thread_core", "thread_session", "reply_lists", "thread_registry", "papi_calls"),
+    "threads and workers": (
+        "stream_reader", "thread_slots", "thread_core", "thread_session", "reply_lists",
+        "thread_registry", "papi_calls",
+    ),
     "scripts, texts, reports": (
-        "script_lines", "script_runner", "tool_output", "soak_input", "profil_hist", "region_report", "tool_words",
+        "script_lines", "script_runner", "tool_output", "soak_input", "profil_hist",
+        "region_report", "tool_words",
     ),
     "program": ("papi_tools", "papi", "papi_c"),
 }
@@ -44,7 +51,9 @@ def _style() -> str:
 
 
 def _kind(name: str) -> str:
-    return next((f"g{place}" for place, names in enumerate(GROUPS.values()) if name in names), "plain")
+    return next(
+        (f"g{place}" for place, names in enumerate(GROUPS.values()) if name in names), "plain"
+    )
 
 
 def draw_crates(listed: dict[str, list[str]]) -> str:
@@ -54,15 +63,26 @@ def draw_crates(listed: dict[str, list[str]]) -> str:
     width = round(layout.width + 2 * MARGIN)
     height = HEADING + LEVEL * len(layout.rows) - (LEVEL - BOX_HEIGHT) + MARGIN
     lines = [
-        f'<svg xmlns="http://www.w3.org/2000/svg" width="{width}" height="{height}" viewBox="0 0 {width} {height}" role="img">',
+        (
+            f'<svg xmlns="http://www.w3.org/2000/svg" width="{width}" height="{height}" viewBox="0 '
+            f'0 {width} {height}" role="img">'
+        ),
         "<title>The crates of Kistalub</title>",
         "<!-- tools/draw_crates makes this file of crates.txt. -->",
         f"<style>{_style()}</style>",
         f'<rect class="page" width="{width}" height="{height}" rx="6"/>',
-        f'<text class="title" x="{MARGIN}" y="{MARGIN + 12}">The crates, each above all that it stands on</text>',
-        f'<text class="quiet" x="{MARGIN}" y="{MARGIN + 32}">A line goes down to a crate that is cited. '
+        (
+            f'<text class="title" x="{MARGIN}" y="{MARGIN + 12}">The crates, each above all that '
+            'it stands on</text>'
+        ),
+        f'<text class="quiet" x="{MARGIN}" y="{MARGIN + 32}">A line goes down to a crate that is '
+        'cited. '
         "It is left out if another line leads there too.</text>",
-        f'<text class="quiet" x="{MARGIN}" y="{MARGIN + 50}">{"Not drawn are the tests: " + ", ".join(tests) + "." if tests else ""}</text>',
+        (
+            f'<text class="quiet" x="{MARGIN}" '
+            f'y="{MARGIN + 50}">'
+            f'{"Not drawn are the tests: " + ", ".join(tests) + "." if tests else ""}</text>'
+        ),
     ]
     lines += _legend(cited, layout.width)
     lines += [_line(chain, layout) for chain in layout.chains]
@@ -81,8 +101,12 @@ def _legend(cited: dict[str, list[str]], width: float) -> list[str]:
             continue
         if left + 40 + 6.4 * len(group) > width:
             left, top = MARGIN, top + 20
-        lines.append(f'<rect class="box g{place}" x="{left:g}" y="{top}" width="12" height="12" rx="2"/>')
-        lines.append(f'<text class="quiet" x="{left + 18:g}" y="{top + 10.5}">{xml_text(group)}</text>')
+        lines.append(
+            f'<rect class="box g{place}" x="{left:g}" y="{top}" width="12" height="12" rx="2"/>'
+        )
+        lines.append(
+            f'<text class="quiet" x="{left + 18:g}" y="{top + 10.5}">{xml_text(group)}</text>'
+        )
         left += 40 + 6.4 * len(group)
     return lines
 
@@ -107,6 +131,8 @@ def _line(chain: list[Node], layout: Layout) -> str:
 def _box(node: Node, layout: Layout) -> str:
     x, y = MARGIN + node.x, _top(node, layout)
     return (
-        f'<rect class="box {_kind(node.name)}" x="{x - BOX_WIDTH / 2:.1f}" y="{y:g}" width="{BOX_WIDTH}" height="{BOX_HEIGHT}" rx="5"/>'
-        f'<text class="name" x="{x:.1f}" y="{y + BOX_HEIGHT / 2 + 4:g}" text-anchor="middle">{xml_text(node.name)}</text>'
+        f'<rect class="box {_kind(node.name)}" x="{x - BOX_WIDTH / 2:.1f}" y="{y:g}" '
+        f'width="{BOX_WIDTH}" height="{BOX_HEIGHT}" rx="5"/>'
+        f'<text class="name" x="{x:.1f}" y="{y + BOX_HEIGHT / 2 + 4:g}" '
+        f'text-anchor="middle">{xml_text(node.name)}</text>'
     )

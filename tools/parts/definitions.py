@@ -1,4 +1,5 @@
-"""The definitions that a contract rests on: which there are in the specs of the crates, what each says in a sentence, and which of them some names reach."""
+"""The definitions that a contract rests on: which there are in the specs of the crates, what each
+says in a sentence, and which of them some names reach."""
 
 from __future__ import annotations
 
@@ -14,13 +15,15 @@ WORD = re.compile(r"[^\s(){}\[\];,:]+")
 DECLARED = "declared"  # in a path: what follows is a type of the Rust code
 CONSTANTS, VARIANTS = "TheConstants", "TheVariants"
 COMMENTS = ("--", "//", "#[")
-MARK = re.compile(r"\s*(?:--|//) tools/make_\w+: (?:begin|end)\b")  # of a region: it says nothing, and ends nothing
+# of a region: it says nothing, and ends nothing
+MARK = re.compile(r"\s*(?:--|//) tools/make_\w+: (?:begin|end)\b")
 RUST_ITEM = r"^\s*(?:pub(?:\([a-z]+\))? )?(?:struct|enum|trait|const|type) {}\b"
 
 
 @dataclass(frozen=True)
 class Place:
-    """Where a definition or a type stands: the path of its module, `Rattle.CRATE.specs.MODULE`, and its name."""
+    """Where a definition or a type stands: the path of its module, `Rattle.CRATE.specs.MODULE`, and
+    its name."""
 
     module: str
     name: str
@@ -41,7 +44,9 @@ class Definition:
     @property
     def lines(self) -> int:
         """Its lines without comments and empty ones."""
-        return sum(1 for line in self.text if line.strip() and not line.lstrip().startswith(COMMENTS))
+        return sum(
+            1 for line in self.text if line.strip() and not line.lstrip().startswith(COMMENTS)
+        )
 
 
 @dataclass
@@ -91,7 +96,9 @@ def take_definitions(module: Module, text: str) -> None:
             continue
         head = HEAD.match(line)
         if head:
-            current = Definition(Place(module.path, head[1]), module.file, number, sentence_of(comment))
+            current = Definition(
+                Place(module.path, head[1]), module.file, number, sentence_of(comment)
+            )
             module.definitions[head[1]] = current
         if line.startswith("--"):
             if current:
@@ -106,7 +113,8 @@ def take_definitions(module: Module, text: str) -> None:
 
 
 def sentence_of(comment: list[str]) -> str:
-    """What the comment above a definition says, on one line; the comment above a group holds for each of it."""
+    """What the comment above a definition says, on one line; the comment above a group holds for
+    each of it."""
     lines = [line.lstrip("-").strip() for line in comment if not line.startswith("-- ----")]
     return " ".join(lines)
 
@@ -126,7 +134,9 @@ class Definitions:
     def __init__(self, root: Path):
         self.root = root
         files = sorted(root.glob("crates/*/specs/**/*.antt"))
-        self.modules = {module.path: module for module in (read_module(root, file) for file in files)}
+        self.modules = {
+            module.path: module for module in (read_module(root, file) for file in files)
+        }
         self.types: dict[Place, Definition | None] = {}
 
     def place_of(self, module: Module, word: str) -> Place | None:
@@ -141,7 +151,8 @@ class Definitions:
         return None
 
     def owner(self, place: Place) -> Place | None:
-        """Where a name that a module hands out is defined, or the type of the Rust code that it belongs to."""
+        """Where a name that a module hands out is defined, or the type of the Rust code that it
+        belongs to."""
         if f".specs.{DECLARED}." in place.module + ".":
             return self.type_of(place) if (self.root / "crates" / place.crate).is_dir() else None
         if place.module in self.modules:
@@ -154,7 +165,8 @@ class Definitions:
 
     @staticmethod
     def type_of(place: Place) -> Place:
-        """The type or constant of the Rust code that a declared name belongs to: its module is that of the Rust file."""
+        """The type or constant of the Rust code that a declared name belongs to: its module is that
+        of the Rust file."""
         head, _, rest = place.module.partition(f".specs.{DECLARED}.")
         parts = rest.split(".") if rest else []
         name = place.name
@@ -173,10 +185,13 @@ class Definitions:
         return self.modules[place.module].definitions.get(place.name)
 
     def read_type(self, place: Place) -> Definition | None:
-        """A type or a constant of the Rust code: its lines from the head to the end of its braces."""
+        """A type or a constant of the Rust code: its lines from the head to the end of its
+        braces."""
         parts = place.module.split(".")[4:]
         source = self.root / "crates" / place.crate / "src"
-        for file in ([source / Path(*parts).with_suffix(".rt")] if parts else []) + [source / "lib.rt"]:
+        for file in ([source / Path(*parts).with_suffix(".rt")] if parts else []) + [
+            source / "lib.rt"
+        ]:
             if file.is_file():
                 found = rust_item(file, place)
                 if found:
@@ -184,7 +199,8 @@ class Definitions:
         return None
 
     def reached(self, starts: list[Place]) -> list[Definition]:
-        """The definitions that these reach, each once, those that a reader meets first before the others."""
+        """The definitions that these reach, each once, those that a reader meets first before the
+        others."""
         order: dict[Place, Definition] = {}
         waiting = list(starts)
         while waiting:
@@ -240,7 +256,8 @@ def rust_sentence(lines: list[str], at: int) -> str:
 
 
 def contract_words(file: Path, function: str) -> tuple[Module, list[str]]:
-    """The module that stands for a file of Rust code, with what its contracts bring in, and the words of a function's contract."""
+    """The module that stands for a file of Rust code, with what its contracts bring in, and the
+    words of a function's contract."""
     text = read_file(str(file))
     module = Module(str(file), file)
     take_uses(module, text)

@@ -1,4 +1,5 @@
-"""docs/DEFINITIONS.md: what a reader has to read to know what the headline says, in the order to read it."""
+"""docs/DEFINITIONS.md: what a reader has to read to know what the headline says, in the order to
+read it."""
 
 from __future__ import annotations
 
@@ -12,7 +13,9 @@ from parts.definitions import Definition, Definitions, contract_words
 
 TOP = "crates/papi_tools/src/top.rt"
 TOP_FUNCTION = "papi_main"
-TOTAL = re.compile(r"[\d,]+ definitions of [\d,]+ lines in \d+ files, and \d+ types of [\d,]+ lines")
+TOTAL = re.compile(
+    r"[\d,]+ definitions of [\d,]+ lines in \d+ files, and \d+ types of [\d,]+ lines"
+)
 ROW = re.compile(r"^\| `(\w+)`((?:, `\w+`)*) \| (.*) \|$")
 INTRODUCTION = """# Definitions
 
@@ -60,7 +63,9 @@ def read_guide(root: Path) -> Guide:
     guide = Guide(root, every.reached(list(dict.fromkeys(starts))), read_subjects(root))
     silent = [it for it in guide.definitions if not it.sentence]
     if silent:
-        raise Fault(f"{silent[0].file.relative_to(root)}: {silent[0].place.name} has no sentence above it")
+        raise Fault(
+            f"{silent[0].file.relative_to(root)}: {silent[0].place.name} has no sentence above it"
+        )
     return guide
 
 
@@ -69,7 +74,10 @@ def total_line(guide: Guide) -> str:
     files = len({it.file for it in guide.specs})
     lines = sum(it.lines for it in guide.specs)
     types = sum(it.lines for it in guide.types)
-    return f"{len(guide.specs):,} definitions of {lines:,} lines in {files} files, and {len(guide.types)} types of {types:,} lines"
+    return (
+        f"{len(guide.specs):,} definitions of {lines:,} lines in {files} files, and "
+        f"{len(guide.types)} types of {types:,} lines"
+    )
 
 
 def with_total(text: str, total: str) -> str:
@@ -81,7 +89,8 @@ def with_total(text: str, total: str) -> str:
 
 
 def by_crate(guide: Guide) -> dict[str, list[Definition]]:
-    """The definitions of each crate, a crate before all that it stands on, and else where the reader first meets it."""
+    """The definitions of each crate, a crate before all that it stands on, and else where the
+    reader first meets it."""
     groups: dict[str, list[Definition]] = {}
     for definition in guide.definitions:
         groups.setdefault(definition.place.crate, []).append(definition)
@@ -97,17 +106,26 @@ def begun(sentence: str) -> str:
 def row(guide: Guide, definition: Definition) -> str:
     place = definition.file.relative_to(guide.root)
     said = begun(definition.sentence.replace("|", "\\|"))
-    return f"| [`{definition.place.name}`](../{place}#L{definition.line}) | {said} | {definition.lines} |"
+    return (
+        f"| [`{definition.place.name}`](../{place}#L{definition.line}) | {said} | "
+        f"{definition.lines} |"
+    )
 
 
 def section(guide: Guide, crate: str, definitions: list[Definition]) -> list[str]:
     lines = sum(it.lines for it in definitions)
-    text = [f"## {crate}", "", f"{begun(guide.subjects.get(crate, crate))}. {len(definitions)} here, {lines} lines.", ""]
+    text = [
+        f"## {crate}", "",
+        f"{begun(guide.subjects.get(crate, crate))}. {len(definitions)} here, {lines} lines.", "",
+    ]
     modules: dict[Path, list[Definition]] = {}
     for definition in definitions:
         modules.setdefault(definition.file, []).append(definition)
     for file, ones in modules.items():
-        text += [f"### {crate}: {file.stem}", "", "| Definition | What it says | Lines |", "|---|---|---|"]
+        text += [
+            f"### {crate}: {file.stem}", "", "| Definition | What it says | Lines |",
+            "|---|---|---|",
+        ]
         text += [row(guide, it) for it in sorted(ones, key=lambda it: it.line)] + [""]
     return text
 

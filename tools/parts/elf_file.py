@@ -11,10 +11,11 @@ from typing import BinaryIO, Iterator, Mapping
 
 from formats.files import Unread, opened
 
-# The head: its mark, its kind, the machine, where it begins, where the tables of its parts and of its
-# sections are, the size of a row of each and how many there are. A row of a part: its kind, its place
-# in the file, its address, its size; of a section: its kind, its flags, its place, its size, the
-# section of its names. A symbol: its name's place, its kind, its section, its address, its size.
+# The head: its mark, its kind, the machine, where it begins, where the tables of its parts and of
+# its sections are, the size of a row of each and how many there are. A row of a part: its kind, its
+# place in the file, its address, its size; of a section: its kind, its flags, its place, its size,
+# the section of its names. A symbol: its name's place, its kind, its section, its address, its
+# size.
 MARK = b"\x7fELF\x02\x01"
 HEAD = struct.Struct("<6s10xHH4xQQQ6xHHHH2x")
 PART = struct.Struct("<I4xQQ8xQ")
@@ -23,7 +24,8 @@ SYMBOL = struct.Struct("<IBxHQQ")
 X86_64 = 62
 SHARED_OBJECT = 3  # loaded anywhere, its addresses count from 0
 SYMBOLS, EXECUTED = 2, 4  # a kind of section, and a flag
-OF_FUNCTIONS = (0, 2, 10)  # kinds of symbols: none is said, a function, one that is chosen when the program is loaded
+# kinds of symbols: none is said, a function, one that is chosen when the program is loaded
+OF_FUNCTIONS = (0, 2, 10)
 LOADED, DYNAMIC, LOADER = 1, 2, 3
 MOST_PLACE = (1 << 63) - 1  # in a file
 MOST_BYTES = 1 << 20  # of a part that is read

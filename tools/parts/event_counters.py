@@ -1,4 +1,5 @@
-"""The counters of a code in a unit: what perf's event files, the kernel's tables and Intel's manual say of them together."""
+"""The counters of a code in a unit: what perf's event files, the kernel's tables and Intel's manual
+say of them together."""
 
 from __future__ import annotations
 
@@ -6,15 +7,20 @@ from parts.linux_source import ConstraintTable
 from parts.perf_events import Code, CounterTable, Places
 from parts.unit_file import Fixed
 
-# Intel's architectural events and their fixed counters, where no table of the kernel is given. The third has no programmable one.
+# Intel's architectural events and their fixed counters, where no table of the kernel is given. The
+# third has no programmable one.
 FIXED_BESIDE: dict[Code, int] = {(0xC0, 0x00): 0, (0x3C, 0x00): 1}
 FIXED_ALONE: dict[Code, int] = {(0x00, 0x03): 2}
 
 
 class EventCounters:
-    """Each source of counters takes some away. Where none speaks of a code, each programmable counter is allowed."""
+    """Each source of counters takes some away. Where none speaks of a code, each programmable
+    counter is allowed."""
 
-    def __init__(self, programmable: int, fixed: int, files: CounterTable | None, constraints: ConstraintTable | None, held: frozenset[int] = frozenset()):
+    def __init__(
+        self, programmable: int, fixed: int, files: CounterTable | None,
+        constraints: ConstraintTable | None, held: frozenset[int] = frozenset(),
+    ):
         """`held` are fixed counters that are not there."""
         self.programmable = programmable
         self.fixed = frozenset(range(fixed)) - held
@@ -29,7 +35,8 @@ class EventCounters:
         named = self.files.places(code, modifiers) if self.files else None
         self.codes += 1
         self.known += named is not None
-        # The event files give the events of fixed counters codes that the kernel does not use, so its table decides on these if it is there.
+        # The event files give the events of fixed counters codes that the kernel does not use, so
+        # its table decides on these if it is there.
         fixed = ruled.fixed | named.fixed if named and not self.constraints else ruled.fixed
         programmable = ruled.programmable & named.programmable if named else ruled.programmable
         if self.constraints and named and named.programmable and not programmable | fixed:
@@ -50,8 +57,14 @@ class EventCounters:
 
 
 def names_of(places: Places) -> tuple[str, ...]:
-    return tuple([f"P{number}" for number in sorted(places.programmable)] + [f"F{number}" for number in sorted(places.fixed)])
+    return tuple(
+        [f"P{number}" for number in sorted(places.programmable)]
+        + [f"F{number}" for number in sorted(places.fixed)]
+    )
 
 
 def union(rows: list[Places]) -> Places:
-    return Places(frozenset().union(*(row.programmable for row in rows)), frozenset().union(*(row.fixed for row in rows)))
+    return Places(
+        frozenset().union(*(row.programmable for row in rows)),
+        frozenset().union(*(row.fixed for row in rows)),
+    )

@@ -1,4 +1,5 @@
-"""The constants of papi.h for Fortran, in the three forms in which PAPI has them, and how such a file is read."""
+"""The constants of papi.h for Fortran, in the three forms in which PAPI has them, and how such a
+file is read."""
 
 from __future__ import annotations
 
@@ -41,7 +42,8 @@ def lines_of(file: str, name: str, value: int) -> Iterator[str]:
 
 
 def as_integer(value: int) -> str:
-    """The number as Fortran's default integer of 32 bits. Its least one can't be written as a literal."""
+    """The number as Fortran's default integer of 32 bits. Its least one can't be written as a
+    literal."""
     if not LEAST <= value < 2**32:
         raise Fault(f"{value} has more than 32 bits")
     signed = value - 2**32 if value >= 2**31 else value
@@ -49,7 +51,8 @@ def as_integer(value: int) -> str:
 
 
 CONSTANT = re.compile(
-    r"\s*PARAMETER\s*\(\s*(\w+)\s*=(.*)\)\s*$|\s*INTEGER\s*,\s*PARAMETER\s*::\s*(\w+)\s*=(.*)$|#define\s+(\w+)\s+(.*)$", re.IGNORECASE
+    r"\s*PARAMETER\s*\(\s*(\w+)\s*=(.*)\)\s*$|\s*INTEGER\s*,\s*PARAMETER\s*::\s*(\w+)\s*=(.*)$"
+    r"|#define\s+(\w+)\s+(.*)$", re.IGNORECASE
 )
 
 

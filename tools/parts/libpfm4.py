@@ -1,7 +1,7 @@
 """The installed libpfm4, by its public calls.
 
-Structures and numbers are those of libpfm4's header `perfmon/pfmlib.h`; the calls are described in its manual
-pages, among them `pfm_get_event_info(3)` and `pfm_get_os_event_encoding(3)`.
+Structures and numbers are those of libpfm4's header `perfmon/pfmlib.h`; the calls are described in
+its manual pages, among them `pfm_get_event_info(3)` and `pfm_get_os_event_encoding(3)`.
 """
 
 from __future__ import annotations
@@ -25,27 +25,34 @@ MOST_CODES = 8
 
 class _PmuInfo(Structure):
     _fields_ = [
-        ("name", c_char_p), ("desc", c_char_p), ("size", c_size_t), ("pmu", c_int), ("type", c_int), ("nevents", c_int),
-        ("first_event", c_int), ("max_encoding", c_int), ("num_cntrs", c_int), ("num_fixed_cntrs", c_int), ("flags", c_uint),
+        ("name", c_char_p), ("desc", c_char_p), ("size", c_size_t), ("pmu", c_int), ("type", c_int),
+        ("nevents", c_int),
+        ("first_event", c_int), ("max_encoding", c_int), ("num_cntrs", c_int),
+        ("num_fixed_cntrs", c_int), ("flags", c_uint),
     ]
 
 
 class _EventInfo(Structure):
     _fields_ = [
-        ("name", c_char_p), ("desc", c_char_p), ("equiv", c_char_p), ("size", c_size_t), ("code", c_uint64), ("pmu", c_int),
+        ("name", c_char_p), ("desc", c_char_p), ("equiv", c_char_p), ("size", c_size_t),
+        ("code", c_uint64), ("pmu", c_int),
         ("dtype", c_int), ("idx", c_int), ("nattrs", c_int), ("reserved", c_int), ("flags", c_uint),
     ]
 
 
 class _AttributeInfo(Structure):
     _fields_ = [
-        ("name", c_char_p), ("desc", c_char_p), ("equiv", c_char_p), ("size", c_size_t), ("code", c_uint64), ("type", c_int),
+        ("name", c_char_p), ("desc", c_char_p), ("equiv", c_char_p), ("size", c_size_t),
+        ("code", c_uint64), ("type", c_int),
         ("idx", c_int), ("ctrl", c_int), ("flags", c_uint), ("default", c_uint64),
     ]
 
 
 class _Encoding(Structure):
-    _fields_ = [("codes", POINTER(c_uint64)), ("fstr", POINTER(c_char_p)), ("size", c_size_t), ("count", c_int), ("idx", c_int)]
+    _fields_ = [
+        ("codes", POINTER(c_uint64)), ("fstr", POINTER(c_char_p)), ("size", c_size_t),
+        ("count", c_int), ("idx", c_int),
+    ]
 
 
 @dataclass(frozen=True)
@@ -94,7 +101,8 @@ class Libpfm4:
     """The library, loaded and initialized for all processors."""
 
     def __init__(self) -> None:
-        os.environ["LIBPFM_ENCODE_INACTIVE"] = "1"  # encode for processors other than this machine's too
+        # encode for processors other than this machine's too
+        os.environ["LIBPFM_ENCODE_INACTIVE"] = "1"
         try:
             self._library = ctypes.CDLL(LIBRARY)
         except OSError:
@@ -109,7 +117,8 @@ class Libpfm4:
             info = _PmuInfo(size=sizeof(_PmuInfo))
             if self._library.pfm_get_pmu_info(number, byref(info)) == 0:
                 yield Pmu(
-                    _text(info.name), _text(info.desc), TYPE_NAMES.get(info.type, "unknown"), info.nevents,
+                    _text(info.name), _text(info.desc), TYPE_NAMES.get(info.type, "unknown"),
+                    info.nevents,
                     info.num_cntrs, info.num_fixed_cntrs, info.first_event,
                 )
 
@@ -129,7 +138,9 @@ class Libpfm4:
         """The codes of a name, for user and kernel if it asks for neither."""
         codes = (c_uint64 * MOST_CODES)()
         encoding = _Encoding(codes=codes, size=sizeof(_Encoding), count=MOST_CODES)
-        result = self._library.pfm_get_os_event_encoding(name.encode(), USER_AND_KERNEL, OS_NONE, byref(encoding))
+        result = self._library.pfm_get_os_event_encoding(
+            name.encode(), USER_AND_KERNEL, OS_NONE, byref(encoding)
+        )
         if result != 0:
             raise Refused(self._why(result))
         return tuple(codes[: encoding.count])
@@ -143,7 +154,9 @@ class Libpfm4:
     def _attribute(self, event: int, place: int) -> Attribute:
         info = _AttributeInfo(size=sizeof(_AttributeInfo))
         self._check(self._library.pfm_get_event_attr_info(event, place, OS_NONE, byref(info)))
-        return Attribute(_text(info.name), _text(info.desc), info.type == ATTRIBUTE_UMASK, info.equiv is not None)
+        return Attribute(
+            _text(info.name), _text(info.desc), info.type == ATTRIBUTE_UMASK, info.equiv is not None
+        )
 
     def _check(self, result: int) -> None:
         if result != 0:

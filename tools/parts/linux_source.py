@@ -1,7 +1,10 @@
-"""What the source of Linux says of a processor's events: perf's event files, and the tables of `arch/x86/events`, by which Linux chooses counters.
+"""What the source of Linux says of a processor's events: perf's event files, and the tables of
+`arch/x86/events`, by which Linux chooses counters.
 
-The macros of the tables are those of `arch/x86/events/perf_event.h`. An event goes by the first row that matches its code. Beside the counters of a code, the
-tables say which events need one of a core's few further registers, which ones a thread of a core has for itself alone (an erratum), and which take two counters.
+The macros of the tables are those of `arch/x86/events/perf_event.h`. An event goes by the first row
+that matches its code. Beside the counters of a code, the tables say which events need one of a
+core's few further registers, which ones a thread of a core has for itself alone (an erratum), and
+which take two counters.
 """
 
 from __future__ import annotations
@@ -19,13 +22,17 @@ TABLES = "arch/x86/events/intel/core.c"
 AMD_TABLES = "arch/x86/events/amd/core.c"
 EVENT = 0xFF
 EVENT_AND_UMASK = 0xFFFF
-EVENT_AND_ALL = 0xFF84FFFF  # with the edge, the inversion and the counter mask, which no fixed counter has
-REFERENCE = 2  # the fixed counter of reference cycles, and the one of slots, alone count what they count
+# with the edge, the inversion and the counter mask, which no fixed counter has
+EVENT_AND_ALL = 0xFF84FFFF
+# the fixed counter of reference cycles, and the one of slots, alone count what they count
+REFERENCE = 2
 SLOTS = 3
 ROW = re.compile(r"^\s*([A-Z_]+)\(([^)]*)\)", re.MULTILINE)
 PASSED_OVER = ("METRIC_EVENT_CONSTRAINT",)  # of metrics, which are no events of a counter
-EXCLUSIVE = ("INTEL_EXCLEVT_CONSTRAINT", "INTEL_EXCLUEVT_CONSTRAINT")  # the errata BJ122, BV98 and HSD29
-REGISTER_ROW = re.compile(r"^\s*INTEL_UEVENT_(PEBS_LDLAT_)?EXTRA_REG\((0x[0-9a-f]+)(?:, *\w+, *(0x[0-9a-f]+)u*l*, *(\w+))?\)", re.MULTILINE)
+# the errata BJ122, BV98 and HSD29
+EXCLUSIVE = ("INTEL_EXCLEVT_CONSTRAINT", "INTEL_EXCLUEVT_CONSTRAINT")
+REGISTER_ROW = re.compile(r"^\s*INTEL_UEVENT_(PEBS_LDLAT_)?EXTRA_REG\((0x[0-9a-f]+)(?:, *\w+, "
+                          r"*(0x[0-9a-f]+)u*l*, *(\w+))?\)", re.MULTILINE)
 OFFCORE = ("RSP_0", "RSP_1")  # either register serves the events of both
 PAIR_FUNCTION = re.compile(r"\bamd_is_pair_event_code\(.*?^\}", re.DOTALL | re.MULTILINE)
 PAIR = re.compile(r"case (0x[0-9a-f]+):\s*return true;")
@@ -33,8 +40,9 @@ PAIR = re.compile(r"case (0x[0-9a-f]+):\s*return true;")
 
 @dataclass(frozen=True)
 class Processor:
-    """Where the source of Linux has what it says of a PMU of libpfm4: the folder of perf's files, and the tables of counters and of registers if there are some. Linux 6.1 has no files of
-    some processors."""
+    """Where the source of Linux has what it says of a PMU of libpfm4: the folder of perf's files,
+    and the tables of counters and of registers if there are some. Linux 6.1 has no files of some
+    processors."""
 
     folder: str | None
     table: str | None = None
@@ -42,16 +50,23 @@ class Processor:
 
 
 def _intel(name: str, registers: str | None, *rows: tuple[str, str | None]) -> dict[str, Processor]:
-    return {pmu: Processor(folder, f"intel_{name}_event_constraints", registers and f"intel_{registers}_extra_regs") for pmu, folder in rows}
+    return {
+        pmu: Processor(
+            folder, f"intel_{name}_event_constraints", registers and f"intel_{registers}_extra_regs"
+        )
+        for pmu, folder in rows
+    }
 
 
 PROCESSORS: dict[str, Processor] = {
     **_intel("core2", None, ("core", None)), **_intel("gen", None, ("atom", "bonnell")),
-    **_intel("slm", "slm", ("slm", "silvermont")), **_intel("slm", "glm", ("glm", "goldmont")), **_intel("slm", "tnt", ("tmt", "elkhartlake")),
+    **_intel("slm", "slm", ("slm", "silvermont")), **_intel("slm", "glm", ("glm", "goldmont")),
+    **_intel("slm", "tnt", ("tmt", "elkhartlake")),
     **_intel("slm", "knl", ("knl", "knightslanding"), ("knm", "knightslanding")),
     **_intel("nehalem", "nehalem", ("nhm", "nehalemep"), ("nhm_ex", "nehalemex")),
     **_intel("westmere", "westmere", ("wsm", "westmereep-sp"), ("wsm_dp", "westmereep-dp")),
-    **_intel("snb", "snb", ("snb", "sandybridge")), **_intel("snb", "snbep", ("snb_ep", "jaketown")),
+    **_intel("snb", "snb", ("snb", "sandybridge")),
+    **_intel("snb", "snbep", ("snb_ep", "jaketown")),
     **_intel("ivb", "snb", ("ivb", "ivybridge")), **_intel("ivb", "snbep", ("ivb_ep", "ivytown")),
     **_intel("hsw", "snbep", ("hsw", "haswell"), ("hsw_ep", "haswellx")),
     **_intel("bdw", "snbep", ("bdw", "broadwell"), ("bdw_ep", "broadwellx")),
@@ -67,7 +82,8 @@ PROCESSORS: dict[str, Processor] = {
 
 @dataclass(frozen=True)
 class Constraint:
-    """The codes that match, from `code` to `code + size` under the mask, and their counters: programmable ones as bits, or a fixed one."""
+    """The codes that match, from `code` to `code + size` under the mask, and their counters:
+    programmable ones as bits, or a fixed one."""
 
     code: int
     size: int
@@ -85,14 +101,20 @@ class ConstraintTable:
         self.rows = rows
 
     def places(self, code: Code, modifiers: Fixed, programmable: int) -> Places | None:
-        """The counters of a code in a unit with so many programmable ones, and None if each of these may count it."""
+        """The counters of a code in a unit with so many programmable ones, and None if each of
+        these may count it."""
         row = self._row(code, modifiers)
         everywhere = frozenset(range(programmable))
         if row is None:
             return None
         if row.fixed is None:
-            return Places(frozenset(number for number in everywhere if row.programmable >> number & 1), frozenset())
-        return Places(frozenset() if row.fixed in (REFERENCE, SLOTS) else everywhere, frozenset({row.fixed}))
+            return Places(
+                frozenset(number for number in everywhere if row.programmable >> number & 1),
+                frozenset(),
+            )
+        return Places(
+            frozenset() if row.fixed in (REFERENCE, SLOTS) else everywhere, frozenset({row.fixed})
+        )
 
     def is_exclusive(self, code: Code, modifiers: Fixed) -> bool:
         """Whether a core's other thread may not use the counter while one counts this code."""
@@ -100,13 +122,17 @@ class ConstraintTable:
         return row is not None and row.is_exclusive
 
     def _row(self, code: Code, modifiers: Fixed) -> Constraint | None:
-        whole = code[0] | code[1] << 8 | modifiers.edge << 18 | modifiers.invert << 23 | modifiers.amount << 24
+        whole = (
+            code[0] | code[1] << 8 | modifiers.edge << 18 | modifiers.invert << 23
+            | modifiers.amount << 24
+        )
         return next((row for row in self.rows if row.matches(whole)), None)
 
 
 @dataclass(frozen=True)
 class Registers:
-    """The codes of events of which each needs a register with a value of its own, how many such registers a core has, and the bits that Linux takes there by code."""
+    """The codes of events of which each needs a register with a value of its own, how many such
+    registers a core has, and the bits that Linux takes there by code."""
 
     codes: frozenset[int]
     count: int
@@ -119,7 +145,9 @@ class Registers:
 def _table(name: str, kind: str, table: str) -> str:
     """The rows of a table in a file of the kernel's source, without comments."""
     text = re.sub(r"/\*.*?\*/", "", read_file(name), flags=re.DOTALL)
-    found = re.search(rf"struct {kind} {re.escape(table)}\[\][^=]*=\s*\{{(.*?)\n\}};", text, re.DOTALL)
+    found = re.search(
+        rf"struct {kind} {re.escape(table)}\[\][^=]*=\s*\{{(.*?)\n\}};", text, re.DOTALL
+    )
     if not found:
         raise Fault(f"{name}: no table {table}")
     return found[1]
@@ -135,10 +163,15 @@ def read_registers(name: str, table: str) -> tuple[Registers, ...]:
         group = OFFCORE[0] if register in OFFCORE else register
         codes.setdefault(group, set()).add(int(match[2], 16))
         counts.setdefault(group, set()).add(register)
-        valid.setdefault(group, []).extend([(int(match[2], 16), int(match[3], 16))] if match[3] else [])
+        valid.setdefault(group, []).extend(
+            [(int(match[2], 16), int(match[3], 16))] if match[3] else []
+        )
     if not codes:
         raise Fault(f"{name}: {table} has no row")
-    return tuple(Registers(frozenset(codes[group]), len(counts[group]), tuple(valid[group])) for group in codes)
+    return tuple(
+        Registers(frozenset(codes[group]), len(counts[group]), tuple(valid[group]))
+        for group in codes
+    )
 
 
 def read_pairs(name: str) -> frozenset[int]:
@@ -151,7 +184,11 @@ def read_pairs(name: str) -> frozenset[int]:
 
 def read_constraints(name: str, table: str) -> ConstraintTable:
     """The constraint table of this name in a file of the kernel's source."""
-    rows = [_row(name, *match.groups()) for match in ROW.finditer(_table(name, "event_constraint", table)) if match[1] not in PASSED_OVER]
+    rows = [
+        _row(name, *match.groups())
+        for match in ROW.finditer(_table(name, "event_constraint", table))
+        if match[1] not in PASSED_OVER
+    ]
     if not rows:
         raise Fault(f"{name}: {table} has no row")
     return ConstraintTable(rows)
@@ -182,7 +219,8 @@ def _row(name: str, macro: str, words: str) -> Constraint:
 
 @dataclass(frozen=True)
 class Sources:
-    """The files of a kernel's source that speak of a PMU. There are no event files if they name no counters."""
+    """The files of a kernel's source that speak of a PMU. There are no event files if they name no
+    counters."""
 
     events: list[str]
     constraints: ConstraintTable | None
@@ -192,19 +230,31 @@ class Sources:
 
 def find_sources(folder: str, pmu: str) -> Sources:
     if pmu not in PROCESSORS:
-        raise Fault(f"--linux: it is not known where Linux has {pmu} (known: {' '.join(sorted(PROCESSORS))})")
+        raise Fault(
+            f"--linux: it is not known where Linux has {pmu} (known: "
+            f"{' '.join(sorted(PROCESSORS))})"
+        )
     processor = PROCESSORS[pmu]
     files = _event_files(folder, processor.folder) if processor.folder else []
     if processor.table is None:
-        return Sources(files if _names_counters(files) else [], None, pairs=read_pairs(str(Path(folder) / AMD_TABLES)))
+        return Sources(
+            files if _names_counters(files) else [], None,
+            pairs=read_pairs(str(Path(folder) / AMD_TABLES)),
+        )
     tables = str(Path(folder) / TABLES)
-    return Sources(files, read_constraints(tables, processor.table), read_registers(tables, processor.registers) if processor.registers else ())
+    return Sources(
+        files, read_constraints(tables, processor.table),
+        read_registers(tables, processor.registers) if processor.registers else (),
+    )
 
 
 def _event_files(folder: str, inner: str) -> list[str]:
     files = sorted(str(path) for path in (Path(folder) / EVENT_FILES / inner).glob("*.json"))
     if not files:
-        raise Fault(f"{folder}/{EVENT_FILES}/{inner}: no event files, so this is no source of Linux with perf's tables")
+        raise Fault(
+            f"{folder}/{EVENT_FILES}/{inner}: no event files, so this is no source of Linux with "
+            "perf's tables"
+        )
     return files
 
 

@@ -1,4 +1,5 @@
-"""The machine that a recording models: caches, translation buffers, a predictor of branches, and what a miss costs (docs/RECORDING.md)."""
+"""The machine that a recording models: caches, translation buffers, a predictor of branches, and
+what a miss costs (docs/RECORDING.md)."""
 
 from __future__ import annotations
 
@@ -51,8 +52,13 @@ class Machine:
 
     def tool_words(self) -> list[str]:
         """As our tool of Valgrind takes them."""
-        shapes = [f"--{name}={shape.word() if shape else 'none'}" for name, shape in self.shapes.items()]
-        return ["--model=yes", f"--predictor={self.predictor}", f"--costs={','.join(map(str, self.costs))}", f"--rep={self.rep}", *shapes]
+        shapes = [
+            f"--{name}={shape.word() if shape else 'none'}" for name, shape in self.shapes.items()
+        ]
+        return [
+            "--model=yes", f"--predictor={self.predictor}",
+            f"--costs={','.join(map(str, self.costs))}", f"--rep={self.rep}", *shapes,
+        ]
 
 
 def _numbers(text: str, form: str) -> list[int]:
@@ -78,7 +84,9 @@ def read_cache(text: str) -> Shape | None:
     """The shape `SIZE,WAYS,LINE`, in bytes but for the ways, or none."""
     if text == "none":
         return None
-    size, ways, line = _numbers(text, "a cache is SIZE,WAYS,LINE with three numbers, such as 32768,8,64, or none")
+    size, ways, line = _numbers(
+        text, "a cache is SIZE,WAYS,LINE with three numbers, such as 32768,8,64, or none"
+    )
     if size % (ways * line):
         raise Fault(f"{text}: a cache has the size of its sets times WAYS times LINE")
     return _checked(text, Shape(size // line, ways, line))
@@ -88,15 +96,24 @@ def read_buffer(text: str) -> Shape | None:
     """The shape `ENTRIES,WAYS,PAGE`, or none."""
     if text == "none":
         return None
-    entries, ways, page = _numbers(text, "a translation buffer is ENTRIES,WAYS,PAGE with three numbers, such as 64,4,4096, or none")
+    entries, ways, page = _numbers(
+        text,
+        "a translation buffer is ENTRIES,WAYS,PAGE with three numbers, such as 64,4,4096, or none",
+    )
     return _checked(text, Shape(entries, ways, page))
 
 
 def read_costs(text: str) -> tuple[int, ...]:
-    """Cycles of an access that the second level serves, the third, the memory, of a page that is missed, and of a mispredicted branch."""
+    """Cycles of an access that the second level serves, the third, the memory, of a page that is
+    missed, and of a mispredicted branch."""
     words = text.split(",")
-    if len(words) != len(COSTS) or not all(word.isdecimal() and int(word) <= MOST_COST for word in words):
-        raise Fault(f"{text}: costs are {','.join(COSTS)}: five numbers of cycles, such as 8,38,200,20,16, each at most {MOST_COST:,}")
+    if len(words) != len(COSTS) or not all(
+        word.isdecimal() and int(word) <= MOST_COST for word in words
+    ):
+        raise Fault(
+            f"{text}: costs are {','.join(COSTS)}: five numbers of cycles, such as 8,38,200,20,16, "
+            f"each at most {MOST_COST:,}"
+        )
     return tuple(map(int, words))
 
 
@@ -117,20 +134,40 @@ LINE, PAGE = 64, 4096
 FIRST = (32, 8)  # KiB and ways, of a first level
 
 
-def _processor(l1d: tuple[int, int], l1i: tuple[int, int], l2: tuple[int, int], l3: tuple[int, int], dtlb: tuple[int, int], itlb: tuple[int, int]) -> Machine:
+def _processor(
+    l1d: tuple[int, int], l1i: tuple[int, int], l2: tuple[int, int], l3: tuple[int, int],
+    dtlb: tuple[int, int], itlb: tuple[int, int],
+) -> Machine:
     """Caches by their KiB and ways, buffers by their pages and ways."""
-    caches = dict(zip(CACHES, (_checked(str(size), Shape(size * KIB // LINE, ways, LINE)) for size, ways in (l1d, l1i, l2, l3))))
-    buffers = dict(zip(BUFFERS, (_checked(str(pages), Shape(pages, ways, PAGE)) for pages, ways in (dtlb, itlb))))
+    caches = dict(
+        zip(
+            CACHES,
+            (
+                _checked(str(size), Shape(size * KIB // LINE, ways, LINE))
+                for size, ways in (l1d, l1i, l2, l3)
+            ),
+        )
+    )
+    buffers = dict(
+        zip(
+            BUFFERS,
+            (_checked(str(pages), Shape(pages, ways, PAGE)) for pages, ways in (dtlb, itlb)),
+        )
+    )
     return Machine({**caches, **buffers})
 
 
-def _of_cores(l1d: tuple[int, int], l2: tuple[int, int], slice_kib: int, ways: int, cores: int, itlb: tuple[int, int] = (128, 8), dtlb: tuple[int, int] = (64, 4)) -> Machine:
+def _of_cores(
+    l1d: tuple[int, int], l2: tuple[int, int], slice_kib: int, ways: int, cores: int,
+    itlb: tuple[int, int] = (128, 8), dtlb: tuple[int, int] = (64, 4),
+) -> Machine:
     """One of Intel's: the third level has a slice for each core."""
     return _processor(l1d, FIRST, l2, (slice_kib * cores, ways), dtlb, itlb)
 
 
-# The first level of buffers, and the last cache of a processor with a number of cores that is a power of two, since that of its sets is one here, or of AMD's complex of cores, by the numbers
-# in the makers' manuals. checks/machines compares them with what the processors answer to CPUID.
+# The first level of buffers, and the last cache of a processor with a number of cores that is a
+# power of two, since that of its sets is one here, or of AMD's complex of cores, by the numbers in
+# the makers' manuals. checks/machines compares them with what the processors answer to CPUID.
 MACHINES = {
     "snb": _of_cores(FIRST, (256, 8), 2048, 16, 4, (128, 4)),
     "snb_ep": _of_cores(FIRST, (256, 8), 2560, 20, 8, (128, 4)),

@@ -16,9 +16,13 @@ STATUSES = (
     ("4", "Out of memory. What was written is a prefix of the output."),
     ("5", "A write failed. What was written is a prefix of the output."),
 )
-HINTS = "The script that runs the tool adds lines that begin with hint: to standard error, on what was refused or not found. With 0 it adds none. " \
-    "The word --quiet leaves them out too, and the line that shows on a terminal how far a run has come. With the word --strict the status is 1 in place of 0 if a call was " \
+HINTS = (
+    "The script that runs the tool adds lines that begin with hint: to standard error, on what was "
+    "refused or not found. With 0 it adds none. "
+    "The word --quiet leaves them out too, and the line that shows on a terminal how far a run has "
+    "come. With the word --strict the status is 1 in place of 0 if a call was "
     "refused, or if a native event counted 0 because the streams lack its code."
+)
 
 WIDTH = 78
 
@@ -36,7 +40,13 @@ def literal(text: str) -> list[str]:
 def sentences(text: str) -> list[str]:
     """A paragraph, each sentence on lines of its own, as mdoc wants it."""
     parts = re.split(r"(?<=[.:]) (?=[A-Z`(])", text)
-    return [escaped(line) for part in parts for line in textwrap.wrap(plain(part), WIDTH, break_long_words=False, break_on_hyphens=False)]
+    return [
+        escaped(line)
+        for part in parts
+        for line in textwrap.wrap(
+            plain(part), WIDTH, break_long_words=False, break_on_hyphens=False
+        )
+    ]
 
 
 def synopsis(line: str) -> list[str]:
@@ -58,7 +68,10 @@ def _macros(part: str) -> str:
 
 def manual_page(usage: Usage, summary: str, date: str) -> str:
     lines = [
-        '.\\" Made by tools/make_pages out of bin/usage and examples. Change those, and run it again.',
+        (
+            '.\\" Made by tools/make_pages out of bin/usage and examples. Change those, and run it '
+            'again.'
+        ),
         f".Dd {date}",
         f".Dt {usage.tool.upper()} 1",
         ".Os",
@@ -74,7 +87,10 @@ def manual_page(usage: Usage, summary: str, date: str) -> str:
     if usage.options:
         lines += [".Pp", "The words are as follows:", ".Bl -tag -width Ds"]
         for option in usage.options:
-            lines += [f".It {_macros(option.word)[1:]}", *sentences(option.meaning[0].upper() + option.meaning[1:] + ".")]
+            lines += [
+                f".It {_macros(option.word)[1:]}",
+                *sentences(option.meaning[0].upper() + option.meaning[1:] + "."),
+            ]
         lines.append(".El")
     for note in usage.notes:
         lines += [".Pp", *sentences(note)]
@@ -82,20 +98,33 @@ def manual_page(usage: Usage, summary: str, date: str) -> str:
         lines.append(".Bl -tag -width Ds")
         for option in usage.calls:
             name, *taken = option.word.split()
-            lines += [f".It Ic {name}" + (f" Ar {' '.join(taken)}" if taken else ""), *sentences(option.meaning[0].upper() + option.meaning[1:] + ".")]
+            lines += [
+                f".It Ic {name}" + (f" Ar {' '.join(taken)}" if taken else ""),
+                *sentences(option.meaning[0].upper() + option.meaning[1:] + "."),
+            ]
         lines.append(".El")
-    lines += [".Sh ENVIRONMENT", ".Bl -tag -width Ds", ".It Ev KISTALUB_HINTS", *sentences(HINTS), ".El"]
+    lines += [
+        ".Sh ENVIRONMENT", ".Bl -tag -width Ds", ".It Ev KISTALUB_HINTS", *sentences(HINTS), ".El",
+    ]
     lines += [".Sh EXIT STATUS", ".Bl -tag -width Ds"]
     for number, meaning in STATUSES:
         lines += [f".It {number}", *sentences(meaning)]
     lines += [".El", ".Sh EXAMPLES", "These are run at the top of the repository."]
     for example in usage.examples:
-        lines += [".Pp", *sentences(example.title), ".Bd -literal -offset indent", escaped(f"$ {example.command}"), *literal(example.output), ".Ed"]
+        lines += [
+            ".Pp", *sentences(example.title), ".Bd -literal -offset indent",
+            escaped(f"$ {example.command}"), *literal(example.output), ".Ed",
+        ]
     lines += [".Sh DIAGNOSTICS", ".Bl -tag -width Ds"]
     for error in read_errors():
         if error.origin in usage.origins() and not error.text.startswith("("):
-            lines += [f".It {escaped(error.text)}", *sentences(error.cause), *sentences(error.remedy)]
-    lines += [".El", ".Sh SEE ALSO", *_others(usage.tool), ".Pp", "docs/FORMATS.md has the formats of the files."]
+            lines += [
+                f".It {escaped(error.text)}", *sentences(error.cause), *sentences(error.remedy),
+            ]
+    lines += [
+        ".El", ".Sh SEE ALSO", *_others(usage.tool), ".Pp",
+        "docs/FORMATS.md has the formats of the files.",
+    ]
     return "\n".join(lines) + "\n"
 
 

@@ -1,4 +1,5 @@
-"""A map file: ranges of program counters, each cut into buckets. Its rows are `RANGE,name,START,WIDTH,BUCKETS`."""
+"""A map file: ranges of program counters, each cut into buckets. Its rows are
+`RANGE,name,START,WIDTH,BUCKETS`."""
 
 from __future__ import annotations
 
@@ -24,7 +25,8 @@ class Stretch:
     room: int
 
     def width(self, widest: int) -> int:
-        """The largest power of two up to `widest` whose buckets cover the function and end before the next one."""
+        """The largest power of two up to `widest` whose buckets cover the function and end before
+        the next one."""
         width = widest
         while width > 1 and -(-self.size // width) * width > self.room:
             width //= 2
@@ -46,10 +48,13 @@ class Range:
 
 
 def ranges_of(functions: list[Function], base: int) -> list[Range]:
-    """A range for each function, with the narrowest buckets of which there are not too many. The functions stand in order."""
+    """A range for each function, with the narrowest buckets of which there are not too many. The
+    functions stand in order."""
     stretches = _stretches(largest(functions), base)
     widest = 1
-    while widest < MOST_WIDTH and sum(stretch.buckets(widest) for stretch in stretches) > MOST_BUCKETS:
+    while (
+        widest < MOST_WIDTH and sum(stretch.buckets(widest) for stretch in stretches) > MOST_BUCKETS
+    ):
         widest *= 2
     room = MOST_BUCKETS
     ranges: list[Range] = []
@@ -71,13 +76,17 @@ def _stretches(functions: list[Function], base: int) -> list[Stretch]:
     ends = [function.address for function in functions[1:]] + [ADDRESSES - base]
     names = map_names(function.name for function in functions)
     return [
-        Stretch(name, base + function.address, min(function.size, end - function.address), end - function.address)
+        Stretch(
+            name, base + function.address, min(function.size, end - function.address),
+            end - function.address,
+        )
         for function, name, end in zip(functions, names, ends)
     ]
 
 
 def map_names(names: Iterable[str]) -> list[str]:
-    """Names as a map has them: other characters become `_`, and what is repeated has a number at its end."""
+    """Names as a map has them: other characters become `_`, and what is repeated has a number at
+    its end."""
     taken: set[str] = set()
     given: list[str] = []
     for name in names:

@@ -1,4 +1,5 @@
-"""The documents of a package: links to what the package has not become plain text. package_links FOLDER edits each .md file below the folder."""
+"""The documents of a package: links to what the package has not become plain text. package_links
+FOLDER edits each .md file below the folder."""
 
 from __future__ import annotations
 
@@ -11,7 +12,8 @@ ELSEWHERE = re.compile(r"[a-z][a-z0-9+.-]*:")
 
 
 def leads_somewhere(target: str, document: Path) -> bool:
-    """Whether the file of a link is there. Links within a document, and those to other places of the world, are taken as they are."""
+    """Whether the file of a link is there. Links within a document, and those to other places of
+    the world, are taken as they are."""
     file = target.partition("#")[0]
     return not file or ELSEWHERE.match(target) is not None or (document.parent / file).exists()
 
@@ -22,7 +24,13 @@ def without_dead_links(text: str, document: Path) -> str:
     for line in text.split("\n"):
         if line.startswith("```"):
             fenced = not fenced
-        lines.append(line if fenced else LINK.sub(lambda link: link[0] if leads_somewhere(link[2], document) else link[1], line))
+        lines.append(
+            line
+            if fenced
+            else LINK.sub(
+                lambda link: link[0] if leads_somewhere(link[2], document) else link[1], line
+            )
+        )
     return "\n".join(lines)
 
 

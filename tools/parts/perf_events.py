@@ -1,8 +1,9 @@
 """Which counters an event may stand on, out of perf's event files.
 
-These are the JSON files of a kernel's source in `tools/perf/pmu-events/arch/x86/NAME`. Each is a list of events. The
-key `Counter` says `0,1,2,3` for programmable counters and `Fixed counter 1` for a fixed one, and `CounterHTOff` the same
-of a core without hyperthreading. An event is matched by the keys `EventCode` and `UMask` and by its modifiers.
+These are the JSON files of a kernel's source in `tools/perf/pmu-events/arch/x86/NAME`. Each is a
+list of events. The key `Counter` says `0,1,2,3` for programmable counters and `Fixed counter 1` for
+a fixed one, and `CounterHTOff` the same of a core without hyperthreading. An event is matched by
+the keys `EventCode` and `UMask` and by its modifiers.
 """
 
 from __future__ import annotations
@@ -39,7 +40,8 @@ class CounterTable:
         rows[modifiers] = _both(rows[modifiers], places) if modifiers in rows else places
 
     def places(self, code: Code, modifiers: Fixed = NOTHING_FIXED) -> Places | None:
-        """Those of the code with these modifiers, else of the code alone, else of the code with any."""
+        """Those of the code with these modifiers, else of the code alone, else of the code with
+        any."""
         rows = self._rows.get(code)
         if not rows:
             return None
@@ -50,11 +52,18 @@ class CounterTable:
 
     def programmable(self) -> int:
         """How many programmable counters the files speak of."""
-        return max((number + 1 for rows in self._rows.values() for places in rows.values() for number in places.programmable), default=0)
+        return max(
+            (
+                number + 1 for rows in self._rows.values() for places in rows.values()
+                for number in places.programmable
+            ),
+            default=0,
+        )
 
 
 def _both(one: Places, other: Places) -> Places:
-    """The counters on which both may stand. An event that has a fixed counter besides has it in an entry of its own."""
+    """The counters on which both may stand. An event that has a fixed counter besides has it in an
+    entry of its own."""
     common = one.programmable & other.programmable
     return Places(common or one.programmable | other.programmable, one.fixed | other.fixed)
 
@@ -76,8 +85,14 @@ def _entries(name: str) -> list[dict[str, Any]]:
     except json.JSONDecodeError as error:
         raise Fault(f"{name}: line {error.lineno}: not JSON: {error.msg}") from None
     except (RecursionError, ValueError):
-        raise Fault(f"{name}: not a list of events: it is nested too deep, or has a number of too many digits") from None
-    if isinstance(entries, dict) and entries and all(isinstance(value, str) for value in entries.values()):
+        raise Fault(
+            f"{name}: not a list of events: it is nested too deep, or has a number of too many "
+            "digits"
+        ) from None
+    if (
+        isinstance(entries, dict) and entries
+        and all(isinstance(value, str) for value in entries.values())
+    ):
         return []  # metricgroups.json, which lies beside the lists of events
     if not isinstance(entries, list) or not all(isinstance(entry, dict) for entry in entries):
         raise Fault(f"{name}: not a list of events, as perf's event files are")
@@ -85,22 +100,34 @@ def _entries(name: str) -> list[dict[str, Any]]:
         raise Fault(f"{name}: a list without an event")
     for number, entry in enumerate(entries, 1):
         if not entry:
-            raise Fault(f"{name}: event {number}: it has no key, and perf's event files have EventName, EventCode, UMask and Counter")
+            raise Fault(
+                f"{name}: event {number}: it has no key, and perf's event files have EventName, "
+                "EventCode, UMask and Counter"
+            )
     return entries
 
 
 def _add_entry(table: CounterTable, name: str, entry: dict[str, Any], hyperthreading: bool) -> None:
-    """Takes an event of the core. Those of other units and the metrics, which have no `Counter`, are passed over."""
+    """Takes an event of the core. Those of other units and the metrics, which have no `Counter`,
+    are passed over."""
     if "Unit" in entry or "Counter" not in entry:
         return
     event = entry.get("EventName", "an event without a name")
     try:
-        places = _places(str(entry["Counter"] if hyperthreading else entry.get("CounterHTOff", entry["Counter"])))
+        places = _places(
+            str(entry["Counter"] if hyperthreading else entry.get("CounterHTOff", entry["Counter"]))
+        )
         codes = list(_codes(entry))
-        modifiers = Fixed(_number_of(entry, "EdgeDetect") != 0, _number_of(entry, "Invert") != 0, _number_of(entry, "CounterMask"))
+        modifiers = Fixed(
+            _number_of(entry, "EdgeDetect") != 0, _number_of(entry, "Invert") != 0,
+            _number_of(entry, "CounterMask"),
+        )
         of_any_thread = _number_of(entry, "AnyThread") != 0
     except ValueError:
-        raise Fault(f"{name}: {event}: EventCode, UMask, Counter or a modifier has no number where one belongs") from None
+        raise Fault(
+            f"{name}: {event}: EventCode, UMask, Counter or a modifier has no number where one "
+            "belongs"
+        ) from None
     for code in codes if (places.programmable or places.fixed) and not of_any_thread else []:
         table.add(code, modifiers, places)
 
@@ -127,4 +154,6 @@ def _places(text: str) -> Places:
     if text.strip().lower().startswith("fixed"):
         return Places(frozenset(), numbers)
     programmable = frozenset(number for number in numbers if number < FIRST_FIXED)
-    return Places(programmable, frozenset(number - FIRST_FIXED for number in numbers - programmable))
+    return Places(
+        programmable, frozenset(number - FIRST_FIXED for number in numbers - programmable)
+    )

@@ -1,4 +1,5 @@
-"""The table of presets (crates/preset_csv/presets.csv), and what other files have of it: lines between marks, the number of presets, and lists of all."""
+"""The table of presets (crates/preset_csv/presets.csv), and what other files have of it: lines
+between marks, the number of presets, and lists of all."""
 
 from __future__ import annotations
 
@@ -44,8 +45,15 @@ def read_presets(text: str) -> list[Preset]:
             raise Fault(f"{TABLE}: line {number}: not three fields")
         preset = Preset(*fields)
         for what, good in (
-            ("symbol", SYMBOL.fullmatch(preset.symbol) and all(preset.symbol != other.symbol for other in presets)),
-            ("code", CODE.fullmatch(preset.code) and (not presets or presets[-1].code < preset.code)),
+            (
+                "symbol",
+                SYMBOL.fullmatch(preset.symbol)
+                and all(preset.symbol != other.symbol for other in presets),
+            ),
+            (
+                "code",
+                CODE.fullmatch(preset.code) and (not presets or presets[-1].code < preset.code),
+            ),
             ("description", DESCRIPTION.fullmatch(preset.description)),
         ):
             if not good:
@@ -59,7 +67,9 @@ def read_presets(text: str) -> list[Preset]:
 def _arms(values: list[str]) -> list[str]:
     """The arms of a match over the rows. The last one has every row that is left."""
     last = len(values) - 1
-    return [f"        {'_' if row == last else row} => {value}," for row, value in enumerate(values)]
+    return [
+        f"        {'_' if row == last else row} => {value}," for row, value in enumerate(values)
+    ]
 
 
 def code_lines(presets: list[Preset]) -> list[str]:
@@ -94,7 +104,10 @@ def code_lines(presets: list[Preset]) -> list[str]:
 
 
 def definition_lines(presets: list[Preset]) -> list[str]:
-    rows = [f'preset (codes "{preset.symbol}") {preset.code} (codes "{preset.description}")' for preset in presets]
+    rows = [
+        f'preset (codes "{preset.symbol}") {preset.code} (codes "{preset.description}")'
+        for preset in presets
+    ]
     return [
         "-- the rows, of which the first has the number 0",
         "unfoldable pub preset_rows : List PresetRow",
@@ -107,7 +120,10 @@ def definition_lines(presets: list[Preset]) -> list[str]:
 
 
 def modelled_lines(presets: list[Preset]) -> list[str]:
-    return ["static const int modelled[] = {", *filled([f"{preset.symbol}," for preset in presets], 140), "};"]
+    return [
+        "static const int modelled[] = {",
+        *filled([f"{preset.symbol}," for preset in presets], 140), "};",
+    ]
 
 
 def symbol_lines(presets: list[Preset]) -> list[str]:
@@ -140,7 +156,9 @@ REGIONS: dict[str, Callable[[list[Preset]], list[str]]] = {
 # Texts with the number of presets, which stands at {n}. At {n+2} there are two user events more.
 NUMBERS: dict[str, tuple[str, ...]] = {
     "docs/DIFFERENCES.md": ("| 108 presets | [{n}](",),
-    "docs/FORMATS.md": ("| a preset file | {n} symbols and ", " and {n} of PAPI's presets are known"),
+    "docs/FORMATS.md": (
+        "| a preset file | {n} symbols and ", " and {n} of PAPI's presets are known",
+    ),
     "docs/C_PROGRAMS.md": ("The model has [{n}](",),
     "examples/avail.expected": ("Of {n} possible events",),
     "examples/avail_all.expected": ("Of {n} possible events",),
@@ -173,7 +191,8 @@ LISTINGS = {
 
 
 def listing_lines(presets: list[Preset], old: list[str]) -> list[str]:
-    """The lines of all presets. Each keeps what its old line says of it. One without a line is not available, or is among those of `6 times: PAPI_...`."""
+    """The lines of all presets. Each keeps what its old line says of it. One without a line is not
+    available, or is among those of `6 times: PAPI_...`."""
     said = {found[1]: found[2] for line in old if (found := LISTED.match(line))}
     folded = any(line.endswith(FOLDED) for line in old)
     lines, times = [], 0
@@ -182,7 +201,10 @@ def listing_lines(presets: list[Preset], old: list[str]) -> list[str]:
             times += 1
             continue
         lines += [f"{times} times: {FOLDED}"] if times else []
-        lines.append(f"{preset.symbol:<14}{preset.code}  {said.get(preset.symbol, UNAVAILABLE)}{preset.description}")
+        lines.append(
+            f"{preset.symbol:<14}{preset.code}  "
+            f"{said.get(preset.symbol, UNAVAILABLE)}{preset.description}"
+        )
         times = 0
     return lines + ([f"{times} times: {FOLDED}"] if times else [])
 
@@ -190,7 +212,9 @@ def listing_lines(presets: list[Preset], old: list[str]) -> list[str]:
 def _list_below(name: str, lines: list[str], title: str) -> int:
     """Where the list begins that stands below a line, with no empty line between."""
     if lines.count(title) == 1:
-        for at, line in enumerate(takewhile(bool, lines[lines.index(title) :]), lines.index(title) + 1):
+        for at, line in enumerate(
+            takewhile(bool, lines[lines.index(title) :]), lines.index(title) + 1
+        ):
             if line.strip() == LIST_HEAD:
                 return at
     raise Fault(f"{name}: no list of presets below: {title}")
@@ -200,9 +224,19 @@ def with_listing(name: str, text: str, title: str, presets: list[Preset]) -> str
     """The text of a file with all presets in the list that stands below this line."""
     lines = text.split("\n")
     begin = _list_below(name, lines, title)
-    old = list(takewhile(lambda line: LISTED.match(line) or line.endswith(FOLDED), (line.strip() for line in lines[begin:])))
+    old = list(
+        takewhile(
+            lambda line: LISTED.match(line) or line.endswith(FOLDED),
+            (line.strip() for line in lines[begin:]),
+        )
+    )
     indent = " " * lines[begin - 1].index(LIST_HEAD)
-    return "\n".join([*lines[:begin], *(indent + line for line in listing_lines(presets, old)), *lines[begin + len(old) :]])
+    return "\n".join(
+        [
+            *lines[:begin], *(indent + line for line in listing_lines(presets, old)),
+            *lines[begin + len(old) :],
+        ]
+    )
 
 
 MADE = tuple({**REGIONS, **LISTINGS, **NUMBERS})

@@ -1,7 +1,10 @@
-"""What the modelled machine counts for the events of real processors: the tables of tools/processors, and the codes that follow from them (docs/RECORDING.md, Codes).
+"""What the modelled machine counts for the events of real processors: the tables of
+tools/processors, and the codes that follow from them (docs/RECORDING.md, Codes).
 
-A table says of which quantities each event with its umask is the sum. In a unit that is counted over each quantity of an event has a bit, and the event's umask has the bits
-of its quantities. A select code has eight bits, so events share a select code as far as these suffice, and a quantity has a line for each select code that has it.
+A table says of which quantities each event with its umask is the sum. In a unit that is counted
+over each quantity of an event has a bit, and the event's umask has the bits of its quantities. A
+select code has eight bits, so events share a select code as far as these suffice, and a quantity
+has a line for each select code that has it.
 """
 
 from __future__ import annotations
@@ -55,7 +58,8 @@ class Row:
 
 @dataclass
 class Group:
-    """Quantities that have bits under one select code. A group of an event without umasks has no others, since such an event counts all of its select code."""
+    """Quantities that have bits under one select code. A group of an event without umasks has no
+    others, since such an event counts all of its select code."""
 
     quantities: list[str]
     is_whole: bool = False
@@ -78,11 +82,17 @@ class Table:
         return FIRST_SELECT + self.group_of[event.upper()]
 
     def code(self, event: str, umask: str) -> Code | None:
-        """The code of an event with its umask, or without one, in the unit that is counted over. An event without umasks may have one named by the code, such as 0x4f."""
-        row = self.rows.get((event.upper(), umask.upper())) or (self.rows.get((event.upper(), "")) if umask.lower().startswith("0x") else None)
+        """The code of an event with its umask, or without one, in the unit that is counted over. An
+        event without umasks may have one named by the code, such as 0x4f."""
+        row = self.rows.get((event.upper(), umask.upper())) or (
+            self.rows.get((event.upper(), "")) if umask.lower().startswith("0x") else None
+        )
         if row is None:
             return None
-        return self.select(event), self.groups[self.group_of[event.upper()]].bits(row.quantities) if umask else 0
+        return (
+            self.select(event),
+            self.groups[self.group_of[event.upper()]].bits(row.quantities) if umask else 0,
+        )
 
     def lines(self) -> dict[str, list[Code]]:
         """The codes of the lines of each quantity."""
@@ -96,7 +106,10 @@ class Table:
 
 def _rows_of(path: Path) -> list[list[str]]:
     """The fields of each row, at most three: the last one may have commas."""
-    return [[field.strip() for field in line.split(",", 2)] for line in read_file(str(path)).splitlines() if line.strip() and not line.startswith("#")]
+    return [
+        [field.strip() for field in line.split(",", 2)]
+        for line in read_file(str(path)).splitlines() if line.strip() and not line.startswith("#")
+    ]
 
 
 def read_quantities(folder: Path = FOLDER) -> Quantities:
@@ -130,7 +143,8 @@ def read_table(path: Path) -> Table:
 
 
 def _give_codes(name: str, table: Table) -> None:
-    """Finds a group for each event. Those of the most quantities come first, so that others find theirs there."""
+    """Finds a group for each event. Those of the most quantities come first, so that others find
+    theirs there."""
     events: dict[str, dict[str, None]] = {}
     for (event, _), row in table.rows.items():
         events.setdefault(event, {}).update(dict.fromkeys(row.quantities))
@@ -138,21 +152,34 @@ def _give_codes(name: str, table: Table) -> None:
     for event in sorted(events, key=lambda event: (event not in whole, -len(events[event]))):
         own = list(events[event])
         if len(own) > BITS:
-            raise Fault(f"{name}: {event} has {len(own)} quantities, and a select code has {BITS} bits")
+            raise Fault(
+                f"{name}: {event} has {len(own)} quantities, and a select code has {BITS} bits"
+            )
         table.group_of[event] = _group_for(table.groups, own, event in whole)
 
 
 def _group_for(groups: list[Group], own: list[str], is_whole: bool) -> int:
     if is_whole:
-        found = next((number for number, group in enumerate(groups) if group.is_whole and set(group.quantities) == set(own)), None)
+        found = next(
+            (
+                number for number, group in enumerate(groups)
+                if group.is_whole and set(group.quantities) == set(own)
+            ),
+            None,
+        )
     else:
-        found = next((number for number, group in enumerate(groups) if set(own) <= set(group.quantities)), None)
+        found = next(
+            (number for number, group in enumerate(groups) if set(own) <= set(group.quantities)),
+            None,
+        )
         if found is None:
             found = _roomiest(groups, own)
     if found is None:
         groups.append(Group(own, is_whole))
         return len(groups) - 1
-    groups[found].quantities += [quantity for quantity in own if quantity not in groups[found].quantities]
+    groups[found].quantities += [
+        quantity for quantity in own if quantity not in groups[found].quantities
+    ]
     return found
 
 

@@ -1,4 +1,5 @@
-"""A profile as papi_profil prints it: `range NAME HITS` and its buckets `0xADDRESS HITS`, then `outside K` and `total N`."""
+"""A profile as papi_profil prints it: `range NAME HITS` and its buckets `0xADDRESS HITS`, then
+`outside K` and `total N`."""
 
 from __future__ import annotations
 
@@ -26,7 +27,10 @@ class FunctionHits:
 
     def hottest(self) -> Bucket | None:
         """The bucket with the most hits, and of these the lowest."""
-        return max(self.buckets, key=lambda bucket: (bucket.hits, -bucket.address)) if self.buckets else None
+        return (
+            max(self.buckets, key=lambda bucket: (bucket.hits, -bucket.address)) if self.buckets
+            else None
+        )
 
 
 @dataclass
@@ -43,7 +47,9 @@ def read_profile(lines: Iterable[str]) -> Profile:
         try:
             ended = _take(profile, line.split(), ended)
         except ValueError:
-            raise Fault(f"standard input: line {number}: not a line of papi_profil's output") from None
+            raise Fault(
+                f"standard input: line {number}: not a line of papi_profil's output"
+            ) from None
     if ended != "total":
         raise Fault("standard input: the profile does not end with a line `total`")
     _check_sums(profile)
@@ -72,7 +78,8 @@ def _take(profile: Profile, words: list[str], ended: str) -> str:
 
 
 def _number(form: re.Pattern[str], text: str, base: int) -> int:
-    """A number as papi_profil writes it: no sign, no blanks, and none that is longer than any of its own."""
+    """A number as papi_profil writes it: no sign, no blanks, and none that is longer than any of
+    its own."""
     if not form.fullmatch(text):
         raise ValueError(text)
     return int(text, base)
@@ -81,6 +88,10 @@ def _number(form: re.Pattern[str], text: str, base: int) -> int:
 def _check_sums(profile: Profile) -> None:
     for function in profile.functions:
         if sum(bucket.hits for bucket in function.buckets) != function.hits:
-            raise Fault(f"standard input: the buckets of {function.name} do not add up to {function.hits:,}")
+            raise Fault(
+                f"standard input: the buckets of {function.name} do not add up to {function.hits:,}"
+            )
     if sum(function.hits for function in profile.functions) + profile.outside != profile.total:
-        raise Fault(f"standard input: the ranges and what is outside do not add up to {profile.total:,}")
+        raise Fault(
+            f"standard input: the ranges and what is outside do not add up to {profile.total:,}"
+        )

@@ -1,4 +1,5 @@
-"""Each tool imports this first: an interrupt while the others are imported ends the process at once, without a traceback. end_with takes interrupts after that."""
+"""Each tool imports this first: an interrupt while the others are imported ends the process at
+once, without a traceback. end_with takes interrupts after that."""
 
 from __future__ import annotations
 

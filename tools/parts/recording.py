@@ -1,4 +1,5 @@
-"""A recording of a program: a run under our tool of Valgrind (tools/valgrind), which writes the stream."""
+"""A recording of a program: a run under our tool of Valgrind (tools/valgrind), which writes the
+stream."""
 
 from __future__ import annotations
 
@@ -39,7 +40,9 @@ class Wanted:
     output: IO[str] | int | None = None
     errors: int | None = None
     source: IO[bytes] | None = None
-    is_whole: bool = False  # as the system starts it: also what its loader does before the program's entry, and with its random bytes
+    # as the system starts it: also what its loader does before the program's entry, and with its
+    # random bytes
+    is_whole: bool = False
     has_further: bool = False  # totals of what only other tools count
     codes: Codes = RECORDED  # of the lines
 
@@ -62,7 +65,9 @@ class Recorded:
         return sum(self.totals.get(name, 0) for name in names)
 
     def has_ended_early(self) -> bool:
-        return self.full_at is not None or self.second_thread or bool(self.failure or self.replaced_by)
+        return (
+            self.full_at is not None or self.second_thread or bool(self.failure or self.replaced_by)
+        )
 
 
 def entry_of_symbol(path: str, symbol: str) -> int:
@@ -81,10 +86,12 @@ def found_program(name: str) -> str:
 
 
 def record(wanted: Wanted, stream: str | None, label: str) -> Recorded:
-    """Records into a file, or into one for each thread, or to standard output. The label stands before the line that shows the progress."""
+    """Records into a file, or into one for each thread, or to standard output. The label stands
+    before the line that shows the progress."""
     path = found_program(wanted.program)
     words = _words(wanted, os.path.realpath(path))
-    bound = {"LD_BIND_NOW": "1"} if wanted.only_calls else {}  # else a name is looked for while a set counts
+    # else a name is looked for while a set counts
+    bound = {"LD_BIND_NOW": "1"} if wanted.only_calls else {}
     environment = valgrind.environment([path, *wanted.arguments], {**wanted.environment, **bound})
     valgrind.tool()
     valgrind.check_temporary_folder()
@@ -95,7 +102,9 @@ def record(wanted: Wanted, stream: str | None, label: str) -> Recorded:
         try:
             try:
                 with uninterrupted():
-                    process = _start(wanted, [*words, f"--report={writer}"], path, stream, writer, environment)
+                    process = _start(
+                        wanted, [*words, f"--report={writer}"], path, stream, writer, environment
+                    )
             finally:
                 os.close(writer)
             recorded = _follow(report, label)
@@ -107,7 +116,10 @@ def record(wanted: Wanted, stream: str | None, label: str) -> Recorded:
                 process.kill()
                 process.wait()
             raise
-    if not recorded.totals and not recorded.has_ended_early() and recorded.status != -signal.SIGKILL:
+    if (
+        not recorded.totals and not recorded.has_ended_early()
+        and recorded.status != -signal.SIGKILL
+    ):
         heed_signal(recorded.status)
         raise Fault(f"{wanted.program} can't be run under valgrind (status {recorded.status})")
     return recorded
@@ -116,22 +128,44 @@ def record(wanted: Wanted, stream: str | None, label: str) -> Recorded:
 def _words(wanted: Wanted, path: str) -> list[str]:
     """The tool's words."""
     entry = entry_of(path)
-    words = [*wanted.machine.tool_words(), f"--counts={'yes' if wanted.has_further else 'no'}", "--tape=yes", *wanted.codes.tool_words(),
-             f"--window={wanted.window}", f"--entry={entry:#x}"]
+    words = [
+        *wanted.machine.tool_words(), f"--counts={'yes' if wanted.has_further else 'no'}",
+        "--tape=yes", *wanted.codes.tool_words(), f"--window={wanted.window}",
+        f"--entry={entry:#x}",
+    ]
     begin = entry_of_symbol(path, wanted.symbol) if wanted.symbol else entry
     words += ["--keep-random=yes"] if wanted.is_whole else [f"--from={begin:#x}"]
     words += ["--stopped=yes"] * wanted.only_calls  # the library starts it while a set counts
     return words + ["--each=yes"] * wanted.is_each + ["--further=yes"] * wanted.has_further
 
 
-def _start(wanted: Wanted, words: list[str], path: str, stream: str | None, report: int, environment: dict[str, str]) -> subprocess.Popen[bytes]:
-    """Starts the program, which inherits the descriptors of the report and of the stream. The tool hides them from it."""
+def _start(
+    wanted: Wanted, words: list[str], path: str, stream: str | None, report: int,
+    environment: dict[str, str],
+) -> subprocess.Popen[bytes]:
+    """Starts the program, which inherits the descriptors of the report and of the stream. The tool
+    hides them from it."""
     each = stream is not None and THREAD_SIGN in stream
-    file = os.dup(1) if stream is None else os.open(stream.replace(THREAD_SIGN, "0"), os.O_WRONLY | os.O_CREAT | os.O_TRUNC | os.O_CLOEXEC, 0o666)
+    file = (
+        os.dup(1)
+        if stream is None
+        else os.open(
+            stream.replace(THREAD_SIGN, "0"), os.O_WRONLY | os.O_CREAT | os.O_TRUNC | os.O_CLOEXEC,
+            0o666,
+        )
+    )
     try:
-        words = [*words, *([f"--streams={stream}"] if each else [f"--stream={file}", f"--threads={'first' if wanted.first_thread else 'one'}"])]
+        words = [
+            *words,
+            *(
+                [f"--streams={stream}"] if each
+                else [f"--stream={file}", f"--threads={'first' if wanted.first_thread else 'one'}"]
+            ),
+        ]
         return subprocess.Popen(
-            valgrind.command(["--log-file=/dev/null", *words], path, wanted.arguments), pass_fds=[report] + [file] * (not each), stdin=wanted.source, stdout=wanted.output, stderr=wanted.errors,
+            valgrind.command(["--log-file=/dev/null", *words], path, wanted.arguments),
+            pass_fds=[report] + [file] * (not each), stdin=wanted.source, stdout=wanted.output,
+            stderr=wanted.errors,
             env=environment, preexec_fn=ends_with_parent(signal.SIGKILL),
         )
     finally:

@@ -6,12 +6,21 @@ import argparse
 from typing import Any, Callable
 
 from parts.command import Fault, Parser
-from parts.machine import BUFFERS, CACHES, COSTS, MACHINES, Machine, REP, read_buffer, read_cache, read_costs, read_predictor
+from parts.machine import (
+    BUFFERS, CACHES, COSTS, MACHINES, Machine, REP, read_buffer, read_cache, read_costs,
+    read_predictor,
+)
 from parts.whole_words import add_whole
 
 MOST_WINDOW = 1 << 40
-NAMES = {"l1d": "first-level data cache", "l1i": "first-level instruction cache", "l2": "second-level cache", "l3": "third-level cache",
-         "dtlb": "translation buffer for data", "itlb": "translation buffer for instructions"}
+NAMES = {
+    "l1d": "first-level data cache",
+    "l1i": "first-level instruction cache",
+    "l2": "second-level cache",
+    "l3": "third-level cache",
+    "dtlb": "translation buffer for data",
+    "itlb": "translation buffer for instructions",
+}
 
 
 def word(read: Callable[[str], Any]) -> Callable[[str], Any]:
@@ -35,16 +44,30 @@ def _window(text: str) -> int:
 def record_words(name: str) -> argparse.ArgumentParser:
     parser = Parser(
         prog=name,
-        description="Runs a program under valgrind and writes a stream of what it does: instructions, loads, stores, misses of caches and "
-        "translation buffers, branches, floating-point operations and cycles, each with its program counter. examples/recorded.unit has their "
-        "events. The first line, a comment, says where the program was loaded; make_map --stream reads it.",
+        description="Runs a program under valgrind and writes a stream of what it does: "
+        "instructions, loads, stores, misses of caches and "
+        "translation buffers, branches, floating-point operations and cycles, each with its "
+        "program counter. examples/recorded.unit has their "
+        "events. The first line, a comment, says where the program was loaded; make_map --stream "
+        "reads it.",
     )
-    parser.add_argument("-o", metavar="STREAM", dest="stream", help="the file to write, with the rank of a process of MPI for %%r; with %%t in its name each thread "
-                        "has a file, and its number from 0 on stands there; without -o the stream goes to standard output, and what the program writes there "
-                        "to standard error")
+    parser.add_argument(
+        "-o",
+        metavar="STREAM",
+        dest="stream",
+        help="the file to write, with the rank of a process of MPI for %%r; with %%t in its name "
+        "each thread "
+        "has a file, and its number from 0 on stands there; without -o the stream goes to standard "
+        "output, and what the program writes there "
+        "to standard error",
+    )
     _add_strict(parser)
-    parser.add_argument("--only-calls", action="store_true", help="record only between calls of PAPI, while an event set counts: for programs with "
-                        "the library of bin/install")
+    parser.add_argument(
+        "--only-calls",
+        action="store_true",
+        help="record only between calls of PAPI, while an event set counts: for programs with "
+        "the library of bin/install",
+    )
     _add_machine(parser)
     _add_lines(parser)
     _add_program(parser)
@@ -60,59 +83,133 @@ def count_words(name: str) -> argparse.ArgumentParser:
         "bin/install, or finds its libpapi.so.7.0 in place of PAPI's. What the program prints and "
         "its status are its own.",
     )
-    parser.add_argument("--library", metavar="FOLDER", help="where libpapi.so.7.0 of bin/install is; a program that is linked with PAPI takes it from there. "
-                        "A tool that is installed knows its own")
-    parser.add_argument("--unit", metavar="UNIT", help="the unit file, such as one of make_unit --counted (examples/recorded.unit, or KISTALUB_UNIT)")
-    parser.add_argument("--presets", metavar="PRESETS", help="the preset file (examples/recorded.presets, or KISTALUB_PRESETS); goes with --cpu")
-    parser.add_argument("--cpu", metavar="CPU", help="the processor of the preset file (recorded, or KISTALUB_CPU)")
+    parser.add_argument(
+        "--library",
+        metavar="FOLDER",
+        help="where libpapi.so.7.0 of bin/install is; a program that is linked with PAPI takes it "
+        "from there. "
+        "A tool that is installed knows its own",
+    )
+    parser.add_argument(
+        "--unit", metavar="UNIT",
+        help=(
+            "the unit file, such as one of make_unit --counted (examples/recorded.unit, or "
+            "KISTALUB_UNIT)"
+        ),
+    )
+    parser.add_argument(
+        "--presets", metavar="PRESETS",
+        help="the preset file (examples/recorded.presets, or KISTALUB_PRESETS); goes with --cpu",
+    )
+    parser.add_argument(
+        "--cpu", metavar="CPU", help="the processor of the preset file (recorded, or KISTALUB_CPU)"
+    )
     _add_strict(parser)
     add_whole(parser)
     lines = parser.add_argument_group("the stream")
-    lines.add_argument("--keep", metavar="STREAM", help="write what happens while a set of a thread counts to this file, with the number of the thread for %%t and the "
-                       "rank of a process of MPI for %%r; without %%t that of the first thread alone")
+    lines.add_argument(
+        "--keep",
+        metavar="STREAM",
+        help="write what happens while a set of a thread counts to this file, with the number of "
+        "the thread for %%t and the "
+        "rank of a process of MPI for %%r; without %%t that of the first thread alone",
+    )
     _add_machine(parser)
     _add_program(parser)
     return parser
 
 
 def _add_strict(parser: argparse.ArgumentParser) -> None:
-    parser.add_argument("--strict", action="store_true", help="refuse a unit with events that the table of its processor has no row for; without it a line names these, and they "
-                        "count nothing")
+    parser.add_argument(
+        "--strict",
+        action="store_true",
+        help="refuse a unit with events that the table of its processor has no row for; without it "
+        "a line names these, and they "
+        "count nothing",
+    )
 
 
 def _add_machine(parser: argparse.ArgumentParser) -> None:
     machine = parser.add_argument_group("the machine that is modelled (docs/RECORDING.md)")
-    machine.add_argument("--machine", choices=MACHINES, default="skl", help="the processor whose caches and buffers are taken (skl)")
+    machine.add_argument(
+        "--machine", choices=MACHINES, default="skl",
+        help="the processor whose caches and buffers are taken (skl)",
+    )
     for name in CACHES:
-        machine.add_argument(f"--{name}", metavar="SIZE,WAYS,LINE", type=word(read_cache), default=argparse.SUPPRESS,
-                             help=f"the {NAMES[name]} in place of that one's, such as 32768,8,64 (bytes, lines in a set, bytes in a line), or none")
+        machine.add_argument(
+            f"--{name}", metavar="SIZE,WAYS,LINE", type=word(read_cache), default=argparse.SUPPRESS,
+            help=(
+                f"the {NAMES[name]} in place of that one's, such as 32768,8,64 (bytes, lines in a "
+                "set, bytes in a line), or none"
+            ),
+        )
     for name in BUFFERS:
-        machine.add_argument(f"--{name}", metavar="ENTRIES,WAYS,PAGE", type=word(read_buffer), default=argparse.SUPPRESS,
-                             help=f"the {NAMES[name]}, such as 64,4,4096, or none")
-    machine.add_argument("--predictor", metavar="N", type=word(read_predictor), default=14, help="branches are predicted by 2^N counters of two bits (14)")
-    machine.add_argument("--costs", metavar=",".join(COSTS), type=word(read_costs), default=Machine().costs,
-                         help="cycles of an access that the second level, the third or the memory serves, of a page that is missed, and of a "
-                         "mispredicted branch, beside the one of each instruction (8,38,200,20,16)")
-    machine.add_argument("--rep", choices=REP, default=REP[0], help="what an instruction with rep loads and stores: something in each of its turns, or "
-                         "each line of 64 bytes once (turns)")
+        machine.add_argument(
+            f"--{name}", metavar="ENTRIES,WAYS,PAGE", type=word(read_buffer),
+            default=argparse.SUPPRESS, help=f"the {NAMES[name]}, such as 64,4,4096, or none",
+        )
+    machine.add_argument(
+        "--predictor", metavar="N", type=word(read_predictor), default=14,
+        help="branches are predicted by 2^N counters of two bits (14)",
+    )
+    machine.add_argument(
+        "--costs",
+        metavar=",".join(COSTS),
+        type=word(read_costs),
+        default=Machine().costs,
+        help="cycles of an access that the second level, the third or the memory serves, of a page "
+        "that is missed, and of a "
+        "mispredicted branch, beside the one of each instruction (8,38,200,20,16)",
+    )
+    machine.add_argument(
+        "--rep",
+        choices=REP,
+        default=REP[0],
+        help="what an instruction with rep loads and stores: something in each of its turns, or "
+        "each line of 64 bytes once (turns)",
+    )
 
 
 def _add_program(parser: argparse.ArgumentParser) -> None:
     parser.add_argument("program", metavar="PROGRAM", help="the program to run")
-    parser.add_argument("arguments", metavar="ARGS", nargs=argparse.REMAINDER, help="its words").required = False
+    parser.add_argument(
+        "arguments", metavar="ARGS", nargs=argparse.REMAINDER, help="its words"
+    ).required = False
 
 
 def _add_lines(parser: argparse.ArgumentParser) -> None:
     lines = parser.add_argument_group("the stream")
-    lines.add_argument("--from", metavar="SYMBOL", dest="symbol", help="begin when this function is first entered")
-    lines.add_argument("--unit", metavar="UNIT", help="the unit file whose events are to count the stream: one that make_unit --counted wrote, or one with the codes of "
-                       "examples/recorded.unit")
-    lines.add_argument("--each", action="store_true", help="a line for each instruction, load and so on, in their order; without it, those at one "
-                       "place are gathered to lines of up to 255")
-    lines.add_argument("--window", metavar="N", type=word(_window), default=65_536, help="gather among N instructions (65536): a larger one gives a "
-                       "smaller stream, a smaller one keeps their order better")
-    lines.add_argument("--first-thread", action="store_true", help="record the first thread and leave the others out; without it a second thread ends "
-                       "the recording into one file, but for processes of MPI")
+    lines.add_argument(
+        "--from", metavar="SYMBOL", dest="symbol", help="begin when this function is first entered"
+    )
+    lines.add_argument(
+        "--unit",
+        metavar="UNIT",
+        help="the unit file whose events are to count the stream: one that make_unit --counted "
+        "wrote, or one with the codes of "
+        "examples/recorded.unit",
+    )
+    lines.add_argument(
+        "--each",
+        action="store_true",
+        help="a line for each instruction, load and so on, in their order; without it, those at "
+        "one "
+        "place are gathered to lines of up to 255",
+    )
+    lines.add_argument(
+        "--window",
+        metavar="N",
+        type=word(_window),
+        default=65_536,
+        help="gather among N instructions (65536): a larger one gives a "
+        "smaller stream, a smaller one keeps their order better",
+    )
+    lines.add_argument(
+        "--first-thread",
+        action="store_true",
+        help="record the first thread and leave the others out; without it a second thread ends "
+        "the recording into one file, but for processes of MPI",
+    )
 
 
 def machine_of(words: argparse.Namespace) -> Machine:

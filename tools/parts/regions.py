@@ -1,4 +1,5 @@
-"""Regions of files: lines between two marks, which a program of tools/ writes. A file may have several, each with a name then."""
+"""Regions of files: lines between two marks, which a program of tools/ writes. A file may have
+several, each with a name then."""
 
 from __future__ import annotations
 
@@ -11,7 +12,8 @@ from parts.usage import ROOT
 
 
 def with_region(name: str, text: str, maker: str, lines: list[str], part: str = "") -> str:
-    """The text of a file with these lines between the marks of a maker, or of the part that has this name there."""
+    """The text of a file with these lines between the marks of a maker, or of the part that has
+    this name there."""
     old = text.split("\n")
     mark = re.compile(rf"{re.escape(maker)}: (begin(?: \w+)?|end)\b")
     found = [(place, match[1]) for place, line in enumerate(old) if (match := mark.search(line))]
@@ -39,4 +41,7 @@ def write_all(maker: str, texts: dict[str, str], *, check: bool) -> None:
 
 def filled(words: list[str], width: int, indent: str = "    ") -> list[str]:
     """The words, as many on a line as fit."""
-    return textwrap.wrap(" ".join(words), width, initial_indent=indent, subsequent_indent=indent, break_long_words=False, break_on_hyphens=False)
+    return textwrap.wrap(
+        " ".join(words), width, initial_indent=indent, subsequent_indent=indent,
+        break_long_words=False, break_on_hyphens=False,
+    )

@@ -18,7 +18,10 @@ def modules_of_steps(tools: list[Tool]) -> list[str]:
 
 def public_names(tools: list[Tool]) -> list[str]:
     names = ", ".join(sorted(tool.public for tool in tools))
-    return ["pub use tool::{", *textwrap.wrap(f"{names},", WIDTH, initial_indent="    ", subsequent_indent="    "), "};"]
+    return [
+        "pub use tool::{",
+        *textwrap.wrap(f"{names},", WIDTH, initial_indent="    ", subsequent_indent="    "), "};",
+    ]
 
 
 def uses_of_steps(tools: list[Tool]) -> list[str]:
@@ -32,7 +35,8 @@ def rows_of_steps(tools: list[Tool]) -> list[str]:
         "quiet": "{function}(rt, alloc, files, words)",
         "own": "{function}(rt, alloc, words, handlers)",
     }
-    return [f"        Command::{tool.variant}(words) => {calls[tool.kind].format(function=tool.function)}," for tool in tools]
+    return [f"        Command::{tool.variant}(words) => "
+            f"{calls[tool.kind].format(function=tool.function)}," for tool in tools]
 
 
 SIGNATURE = """
@@ -69,7 +73,13 @@ TELLING = SIGNATURE + """
 def public_functions(tools: list[Tool]) -> list[str]:
     """One for each tool, but for those over no files."""
     forms = {"text": QUIET, "quiet": QUIET, "telling": TELLING, "own": ""}
-    texts = [forms[tool.kind].format(name=tool.name, public=tool.public, gap=" " if len(tool.name) <= MOST_NAME else "\n        ") for tool in tools]
+    texts = [
+        forms[tool.kind].format(
+            name=tool.name, public=tool.public,
+            gap=" " if len(tool.name) <= MOST_NAME else "\n        ",
+        )
+        for tool in tools
+    ]
     return "".join(texts).strip("\n").split("\n")
 
 
@@ -82,7 +92,10 @@ def uses_of_verdicts(tools: list[Tool]) -> list[str]:
 
 
 def _verdicts(tools: list[Tool]) -> list[str]:
-    return [f"use Rattle.papi_tools.specs.{camel(tool.module)}.{{{tool.words}_verdict}}" for tool in sorted(tools, key=lambda tool: camel(tool.module))]
+    return [
+        f"use Rattle.papi_tools.specs.{camel(tool.module)}.{{{tool.words}_verdict}}"
+        for tool in sorted(tools, key=lambda tool: camel(tool.module))
+    ]
 
 
 def rows_of_verdicts(tools: list[Tool]) -> list[str]:
@@ -95,7 +108,8 @@ def rows_of_verdicts(tools: list[Tool]) -> list[str]:
     return [
         "-- what a command comes to: a row for each tool",
         "abbrev pub command_verdict : Openings → Command → Result Verdict Refusal",
-        *(f"command_verdict openings ({tool.variant} words) = {calls[tool.kind].format(words=tool.words)}" for tool in tools),
+        *(f"command_verdict openings ({tool.variant} words) = "
+          f"{calls[tool.kind].format(words=tool.words)}" for tool in tools),
     ]
 
 
@@ -106,9 +120,15 @@ def uses_of_noes(tools: list[Tool]) -> list[str]:
 def rows_of_noes(tools: list[Tool]) -> list[str]:
     may = {"event": "IsSome words.event", "any": "Unit {0}"}
     return [
-        "-- the tools that may say no: to the name of an event, to names, or to events that do not go together",
+        (
+            "-- the tools that may say no: to the name of an event, to names, or to events that do "
+            "not go together"
+        ),
         "abbrev pub SaysNo : Option Command → Type 0",
-        *(f"SaysNo (Some ({tool.variant} words)) = {may[tool.says_no]}" for tool in tools if tool.says_no),
+        *(
+            f"SaysNo (Some ({tool.variant} words)) = {may[tool.says_no]}" for tool in tools
+            if tool.says_no
+        ),
         *(["SaysNo _ = ⊥"] if any(not tool.says_no for tool in tools) else ["SaysNo None = ⊥"]),
     ]
 
@@ -119,16 +139,25 @@ def rows_of_noes(tools: list[Tool]) -> list[str]:
 def rows_of_proofs(tools: list[Tool]) -> list[str]:
     """The answer of each tool is its verdict's."""
     proofs = {
-        "text": "(quiet_tells _ _ _ c.{function}.result (λ o. {words}_verdict o _) _ _ c.{function}.ensures.said (text_shows _ c.{function}.result _ _ c.{function}.ensures.textual))",
+        "text": (
+            "(quiet_tells _ _ _ c.{function}.result (λ o. {words}_verdict o _) _ _ "
+            "c.{function}.ensures.said (text_shows _ c.{function}.result _ _ "
+            "c.{function}.ensures.textual))"
+        ),
         "telling": "c.{function}.ensures.tells",
-        "quiet": "(quiet_tells _ _ _ c.{function}.result (λ o. {words}_verdict o _) _ _ c.{function}.ensures.said c.{function}.ensures.shows)",
+        "quiet": (
+            "(quiet_tells _ _ _ c.{function}.result (λ o. {words}_verdict o _) _ _ "
+            "c.{function}.ensures.said c.{function}.ensures.shows)"
+        ),
         "own": "(c.{function}.ensures.tells _ _ _)",
     }
     lines: list[str] = []
     for tool in tools:
         goal = f"returns-in-{tool.variant}-clause-tells"
         proof = proofs[tool.kind].format(function=tool.function, words=tool.words)
-        lines += [f"pub {goal} : goal.{goal}", f"{goal} g c = rw c.in-{tool.variant}.is {proof}", ""]
+        lines += [
+            f"pub {goal} : goal.{goal}", f"{goal} g c = rw c.in-{tool.variant}.is {proof}", "",
+        ]
     return lines[:-1]
 
 
@@ -144,9 +173,13 @@ def rows_of_own_statuses(tools: list[Tool]) -> list[str]:
         "own": "of_{words} words",
     }
     return [
-        "of_command : (openings : Openings) (command : Option Command) → IfOk (verdict_for openings command) Comes",
+        (
+            "of_command : (openings : Openings) (command : Option Command) → IfOk (verdict_for "
+            "openings command) Comes"
+        ),
         "of_command openings None = tt",
-        *(f"of_command openings (Some ({tool.variant} words)) = {proofs[tool.kind].format(words=tool.words)}" for tool in tools),
+        *(f"of_command openings (Some ({tool.variant} words)) = "
+          f"{proofs[tool.kind].format(words=tool.words)}" for tool in tools),
     ]
 
 
@@ -158,6 +191,12 @@ REGIONS: dict[str, dict[str, Lines]] = {
     f"{CRATE}/specs/Lib.antt": {"verdicts": modules_of_verdicts},
     f"{CRATE}/specs/Verdict.antt": {"uses": uses_of_verdicts, "rows": rows_of_verdicts},
     f"{CRATE}/specs/Looking.antt": {"uses": uses_of_noes, "rows": rows_of_noes},
-    f"{CRATE}/proofs/top/carried_out/Answers.antt": {"uses": uses_of_proofs, "rows": rows_of_proofs},
-    f"{CRATE}/proofs/OwnStatusLemmas.antt": {"uses": uses_of_verdicts, "rows": rows_of_own_statuses},
+    f"{CRATE}/proofs/top/carried_out/Answers.antt": {
+        "uses": uses_of_proofs,
+        "rows": rows_of_proofs,
+    },
+    f"{CRATE}/proofs/OwnStatusLemmas.antt": {
+        "uses": uses_of_verdicts,
+        "rows": rows_of_own_statuses,
+    },
 }

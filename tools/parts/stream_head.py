@@ -1,4 +1,5 @@
-"""The lines before the first occurrence of a stream that tools/record wrote. One of them says where the program was loaded: `# loaded at 0x108000`."""
+"""The lines before the first occurrence of a stream that tools/record wrote. One of them says where
+the program was loaded: `# loaded at 0x108000`."""
 
 from __future__ import annotations
 
@@ -21,4 +22,7 @@ def read_base(stream: str) -> int:
     for line in head:
         if match := LOADED_AT.fullmatch(line):
             return int(match[1], 16)
-    raise Fault(f"{stream}: its first line does not say where the program was loaded, as those of tools/record do")
+    raise Fault(
+        f"{stream}: its first line does not say where the program was loaded, as those of "
+        "tools/record do"
+    )

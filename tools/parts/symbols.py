@@ -21,7 +21,10 @@ def _program(name: str) -> Iterator[tuple[BinaryIO, ElfHead]]:
                 file.seek(0)
                 content = file.read(HEAD.size)
                 is_other = content.startswith(ELF_MAGIC) and len(content) == HEAD.size
-                raise Fault(f"{name}: not a program for x86-64, and others can't be recorded" if is_other else f"{name}: not a program file (ELF)")
+                raise Fault(
+                    f"{name}: not a program for x86-64, and others can't be recorded" if is_other
+                    else f"{name}: not a program file (ELF)"
+                )
             yield file, head
     except Unread as unread:
         raise Fault(str(unread)) from None
@@ -30,9 +33,12 @@ def _program(name: str) -> Iterator[tuple[BinaryIO, ElfHead]]:
 
 
 def read_functions(program: str) -> list[Function]:
-    """All functions of known size in the order of their addresses, each address once, by the first of its names."""
+    """All functions of known size in the order of their addresses, each address once, by the first
+    of its names."""
     with _program(program) as (file, head):
-        found = sorted(symbols_of(file, head), key=lambda function: (function.address, function.name))
+        found = sorted(
+            symbols_of(file, head), key=lambda function: (function.address, function.name)
+        )
     first: dict[int, Function] = {}
     for function in found:
         first.setdefault(function.address, function)

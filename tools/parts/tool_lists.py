@@ -1,4 +1,5 @@
-"""What stands around the crates of all tools: their scripts, lists of their names, tables of documents, and an example of each."""
+"""What stands around the crates of all tools: their scripts, lists of their names, tables of
+documents, and an example of each."""
 
 from __future__ import annotations
 
@@ -41,7 +42,9 @@ def readme_rows(tools: list[Tool]) -> list[str]:
 # Files with a list of all tools below a text, up to an empty line.
 LISTS: dict[str, tuple[str, Callable[[list[Tool]], list[str]]]] = {
     "bin/usage/papi": ("The tools, each with a script of its own:\n\n", usage_rows),
-    "README.md": ("| Tool | What it does | Tool | What it does |\n|---|---|---|---|\n", readme_rows),
+    "README.md": (
+        "| Tool | What it does | Tool | What it does |\n|---|---|---|---|\n", readme_rows,
+    ),
 }
 
 
@@ -68,7 +71,9 @@ NAMES = {
 def with_names(name: str, text: str, front: str, tools: list[Tool]) -> str:
     """The text of a file with the names of all tools and programs after this text."""
     names = " ".join(sorted([*(tool.name for tool in tools), *PROGRAMS]))
-    text, times = re.subn(rf"^({re.escape(front)})papi_\w+( papi_\w+)*$", rf"\g<1>{names}", text, flags=re.MULTILINE)
+    text, times = re.subn(
+        rf"^({re.escape(front)})papi_\w+( papi_\w+)*$", rf"\g<1>{names}", text, flags=re.MULTILINE
+    )
     if times != 1:
         raise Fault(f"{name}: does not have once: {front}papi_..")
     return text
@@ -103,18 +108,26 @@ def usage_of(tool: Tool, root: Path) -> str:
 
 def words_rows(tools: list[Tool], root: Path) -> list[str]:
     rows = ((tool.name, usage_of(tool, root).replace("|", "\\|"), tool.prints) for tool in tools)
-    return ["| Tool | Words | Prints |", "|---|---|---|", *(f"| `{name}` | `{words}` | {prints} |" for name, words, prints in rows)]
+    return [
+        "| Tool | Words | Prints |", "|---|---|---|",
+        *(f"| `{name}` | `{words}` | {prints} |" for name, words, prints in rows),
+    ]
 
 
 def example_texts(tool: Tool, root: Path) -> dict[str, str]:
-    """The example at the end of a usage: its words, one a line, as they are in the folder of the examples, and what it prints, if that stands below."""
+    """The example at the end of a usage: its words, one a line, as they are in the folder of the
+    examples, and what it prints, if that stands below."""
     _, found, text = read_file(str(root / f"bin/usage/{tool.name}")).partition(EXAMPLE)
     command, *output = (line[len(INDENT) :] for line in text.splitlines() or [""])
     words = command.split()
     if not found or words[:1] != [f"bin/{tool.name}"]:
         raise Fault(f"bin/usage/{tool.name}: does not end with an example")
     place = f"examples/{tool.example}"
-    texts = {f"{place}.words": "".join(f"{word.removeprefix('examples/')}\n" for word in (tool.name, *words[1:]))}
+    texts = {
+        f"{place}.words": "".join(
+            f"{word.removeprefix('examples/')}\n" for word in (tool.name, *words[1:])
+        )
+    }
     if output:
         texts[f"{place}.expected"] = "".join(f"{line}\n" for line in output)
     return texts
@@ -124,7 +137,8 @@ def example_texts(tool: Tool, root: Path) -> dict[str, str]:
 
 
 def laid_out(name: str, lines: list[str]) -> list[str]:
-    """The lines of a region. Below a definition stands an empty line, below a list of uses or of modules none."""
+    """The lines of a region. Below a definition stands an empty line, below a list of uses or of
+    modules none."""
     is_list = lines[-1:] != [] and lines[-1].startswith(("use ", "pub mod "))
     return lines if Path(name).suffix != ".antt" or is_list else [*lines, ""]
 
@@ -139,8 +153,14 @@ def made_texts(root: Path = ROOT) -> dict[str, str]:
 
     for name, parts in REGIONS.items():
         for part, lines in parts.items():
-            change(name, lambda text: with_region(name, text, MAKER, laid_out(name, lines(tools)), part))
-    for name, lines in (("checks/running.py", checked_lines(tools)), ("examples/titles", titles(tools)), ("docs/FORMATS.md", words_rows(tools, root))):
+            change(
+                name,
+                lambda text: with_region(name, text, MAKER, laid_out(name, lines(tools)), part),
+            )
+    for name, lines in (
+        ("checks/running.py", checked_lines(tools)), ("examples/titles", titles(tools)),
+        ("docs/FORMATS.md", words_rows(tools, root)),
+    ):
         change(name, lambda text: with_region(name, text, MAKER, lines))
     for name, (head, rows) in LISTS.items():
         change(name, lambda text: with_list(name, text, head, rows(tools)))

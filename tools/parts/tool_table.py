@@ -57,7 +57,8 @@ class Tool:
     def faults(self) -> list[str]:
         """The columns that are not as they have to be."""
         good = {
-            "name": self.name.startswith("papi_") and NAME.fullmatch(self.name) and len(self.name) <= LONGEST,
+            "name": self.name.startswith("papi_") and NAME.fullmatch(self.name)
+            and len(self.name) <= LONGEST,
             "words": NAME.fullmatch(self.words),
             "kind": self.kind in KINDS,
             "steps": STEPS.fullmatch(self.steps),
@@ -78,7 +79,10 @@ COLUMNS = [field.name for field in fields(Tool)]
 def read_tools(text: str) -> list[Tool]:
     """The rows of the table, below the line with the names of the columns."""
     tools: list[Tool] = []
-    lines = [(number, line) for number, line in enumerate(text.splitlines(), 1) if not line.startswith("#")]
+    lines = [
+        (number, line) for number, line in enumerate(text.splitlines(), 1)
+        if not line.startswith("#")
+    ]
     for row, (number, line) in zip(csv.reader(line for _, line in lines), lines):
         if number == lines[0][0]:
             if row != COLUMNS:

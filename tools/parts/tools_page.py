@@ -88,8 +88,15 @@ DONE = "the call was carried out"
 
 
 def codes_section() -> list[str]:
-    numbers = dict(re.findall(r"#define (PAPI_\w+)\s+\(?(-?[0-9]+)\)?", read_file(str(ROOT / "include/fpapi.h"))))
-    rows = [f"| `{code}` | {numbers[code]} | {sentence} | {cell(_when(code))} |" for code, sentence in SENTENCES.items()]
+    numbers = dict(
+        re.findall(
+            r"#define (PAPI_\w+)\s+\(?(-?[0-9]+)\)?", read_file(str(ROOT / "include/fpapi.h"))
+        )
+    )
+    rows = [
+        f"| `{code}` | {numbers[code]} | {sentence} | {cell(_when(code))} |"
+        for code, sentence in SENTENCES.items()
+    ]
     return [*CODES_HEAD.splitlines(), *rows, ""]
 
 
@@ -100,7 +107,10 @@ def _when(code: str) -> str:
             calls_of.setdefault(", or ".join(causes), []).append(f"`{call}`")
     told = [f"{', '.join(calls)}: {cause}" for cause, calls in calls_of.items()]
     if code == CONFLICT:
-        told.append("`add`: the native events find no counters beside those of the set. The reply names those to blame, and after a `/` the counters that they are allowed")
+        told.append(
+            "`add`: the native events find no counters beside those of the set. The reply names "
+            "those to blame, and after a `/` the counters that they are allowed"
+        )
     return "; ".join(told) or {"PAPI_OK": DONE, "PAPI_ESYS": OF_RUN}.get(code, "")
 
 
@@ -110,7 +120,10 @@ def tools_page(sections: Sequence[tuple[str, str, list[str]]] = ()) -> str:
     lines = [HEAD.rstrip("\n"), "", "| Tool | |", "|---|---|"]
     lines += [f"| [{tool}](#{tool}) | {cell(summary)} |" for tool, summary in summaries().items()]
     lines += [f"| [{name}](#{name}) | {cell(summary)} |" for name, summary, _ in sections]
-    lines += ["| | [Codes of replies](#codes-of-replies) |", "| | [Statuses](#statuses) |", "| | [Errors](#errors): each with its cause and its remedy |", ""]
+    lines += [
+        "| | [Codes of replies](#codes-of-replies) |", "| | [Statuses](#statuses) |",
+        "| | [Errors](#errors): each with its cause and its remedy |", "",
+    ]
     for usage in usages:
         lines += _section(usage)
     for _, _, made in sections:
@@ -122,14 +135,25 @@ def tools_page(sections: Sequence[tuple[str, str, list[str]]] = ()) -> str:
 
 
 def _section(usage: Usage) -> list[str]:
-    lines = [f"## {usage.tool}", "", f"    {usage.tool} {usage.line}", "", usage.lead, "", "| Word | Meaning |", "|---|---|"]
-    lines += [f"| `{cell(option.word)}` | {cell(option.meaning)} |" for option in usage.options] + [""]
+    lines = [
+        f"## {usage.tool}", "", f"    {usage.tool} {usage.line}", "", usage.lead, "",
+        "| Word | Meaning |", "|---|---|",
+    ]
+    lines += [f"| `{cell(option.word)}` | {cell(option.meaning)} |" for option in usage.options] + [
+        ""
+    ]
     for note in usage.notes:
         lines += [note, ""]
     if usage.calls:
-        lines += ["| Call | What it does |", "|---|---|", *(f"| `{option.word}` | {cell(option.meaning)} |" for option in usage.calls), ""]
+        lines += [
+            "| Call | What it does |", "|---|---|",
+            *(f"| `{option.word}` | {cell(option.meaning)} |" for option in usage.calls), "",
+        ]
     for example in usage.examples:
-        lines += [example.title, "", "```console", f"$ {example.command}", *example.output.splitlines(), "```", ""]
+        lines += [
+            example.title, "", "```console", f"$ {example.command}", *example.output.splitlines(),
+            "```", "",
+        ]
     return lines
 
 
@@ -142,7 +166,9 @@ def _errors(errors: list[Error]) -> list[str]:
         lines += [f"### {title}", "", "| Line | Status | Cause | Remedy |", "|---|---|---|---|"]
         for error in rows:
             text = error.text if error.text.startswith("(") else f"`{error.text}`"
-            lines.append(f"| {cell(text)} | {error.status} | {cell(error.cause)} | {cell(error.remedy)} |")
+            lines.append(
+                f"| {cell(text)} | {error.status} | {cell(error.cause)} | {cell(error.remedy)} |"
+            )
         lines.append("")
     return lines
 

@@ -62,7 +62,10 @@ class Event:
     umasks: tuple[Umask, ...]
 
     def rows(self) -> list[str]:
-        own = f"EVENT,{self.name},{self.select:02x},{' '.join(self.counters)},{plain(self.description)}"
+        own = (
+            f"EVENT,{self.name},{self.select:02x},{' '.join(self.counters)},"
+            f"{plain(self.description)}"
+        )
         return [own] + [row for umask in self.umasks for row in umask.rows()]
 
 
@@ -78,7 +81,8 @@ class Unit:
     events: tuple[Event, ...]
 
     def rows(self) -> list[str]:
-        """An event stands on the first counter that is free, and Linux takes fixed ones before others."""
+        """An event stands on the first counter that is free, and Linux takes fixed ones before
+        others."""
         rows = [f"COMPONENT,{self.component},{self.pmu}"]
         rows += [f"COUNTER,F{number},{self.width},F" for number in sorted(self.fixed)]
         rows += [f"COUNTER,P{number},{self.width},P" for number in range(self.programmable)]
@@ -86,9 +90,12 @@ class Unit:
 
 
 def plain(description: str) -> str:
-    """A description as a field can have it: one line of printable ASCII without commas, at most 200 characters."""
+    """A description as a field can have it: one line of printable ASCII without commas, at most 200
+    characters."""
     words = " ".join(description.replace(",", ";").split())
-    return "".join(letter if " " <= letter <= "~" else "?" for letter in words)[:LONGEST_DESCRIPTION].rstrip()
+    return "".join(letter if " " <= letter <= "~" else "?" for letter in words)[
+        :LONGEST_DESCRIPTION
+    ].rstrip()
 
 
 def is_name(text: str) -> bool:

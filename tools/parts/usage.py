@@ -1,4 +1,5 @@
-"""The usage texts of the tools, as `bin/usage` has them: the one source of `--help`, docs/TOOLS.md and the manual pages."""
+"""The usage texts of the tools, as `bin/usage` has them: the one source of `--help`, docs/TOOLS.md
+and the manual pages."""
 
 from __future__ import annotations
 
@@ -12,7 +13,10 @@ ROOT = Path(__file__).resolve().parent.parent.parent
 USAGE = ROOT / "bin/usage"
 EXAMPLES = ROOT / "examples"
 # The words of a usage that name files, and where their errors come from.
-ORIGIN_OF = {"UNIT": "unit", "PRESETS": "presets", "SCRIPT": "script", "STREAM": "stream", "MAP": "map", "REGIONS": "regions"}
+ORIGIN_OF = {
+    "UNIT": "unit", "PRESETS": "presets", "SCRIPT": "script", "STREAM": "stream", "MAP": "map",
+    "REGIONS": "regions",
+}
 
 
 @dataclass(frozen=True)
@@ -42,7 +46,9 @@ class Usage:
 
     def origins(self) -> set[str]:
         """Where the errors of this tool come from."""
-        named = {origin for word, origin in ORIGIN_OF.items() if re.search(rf"\b{word}\b", self.line)}
+        named = {
+            origin for word, origin in ORIGIN_OF.items() if re.search(rf"\b{word}\b", self.line)
+        }
         return {"words", "memory", "output"} | named | ({"files"} if named else set())
 
 
@@ -81,7 +87,10 @@ def read_usage(tool: str) -> Usage:
         else:
             notes.append(" ".join(part.split()))
     options, calls = [*tables, (), ()][:2]
-    return Usage(tool, head.removeprefix(f"Usage: {tool}").strip(), " ".join(parts[0].split()), options, tuple(notes), calls, _examples(tool))
+    return Usage(
+        tool, head.removeprefix(f"Usage: {tool}").strip(), " ".join(parts[0].split()), options,
+        tuple(notes), calls, _examples(tool),
+    )
 
 
 def _option(tool: str, line: str) -> Option:
@@ -106,7 +115,9 @@ def _examples(tool: str) -> tuple[Example, ...]:
 def _example(name: str, title: str, words: list[str]) -> Example:
     """An example as it is run at the top of the repository, so its files are named from there."""
     files = [word for word in words[1:] if (EXAMPLES / word).is_file()]
-    command = " ".join([f"bin/{words[0]}"] + [f"examples/{word}" if word in files else word for word in words[1:]])
+    command = " ".join(
+        [f"bin/{words[0]}"] + [f"examples/{word}" if word in files else word for word in words[1:]]
+    )
     output = _part_of(name, "expected") + _part_of(name, "errors")
     for word in files:
         output = output.replace(f"papi: {word}: ", f"papi: examples/{word}: ")
@@ -114,7 +125,8 @@ def _example(name: str, title: str, words: list[str]) -> Example:
 
 
 def _part_of(name: str, ending: str) -> str:
-    """What an example writes: `expected` and `errors` by the program, and `hints` by the script in bin/ after it, at the top of the repository."""
+    """What an example writes: `expected` and `errors` by the program, and `hints` by the script in
+    bin/ after it, at the top of the repository."""
     path = EXAMPLES / f"{name}.{ending}"
     return read_file(str(path)) if path.exists() else ""
 

@@ -1,5 +1,6 @@
-"""Our own tool of Valgrind (tools/valgrind), which counts a program while it runs. It is built when it is used first, and kept in the user's folder for caches
-under a checksum of its text and of what Valgrind there is."""
+"""Our own tool of Valgrind (tools/valgrind), which counts a program while it runs. It is built when
+it is used first, and kept in the user's folder for caches under a checksum of its text and of what
+Valgrind there is."""
 
 from __future__ import annotations
 
@@ -15,7 +16,10 @@ from parts.compiler import run_group
 
 SOURCES = Path(__file__).resolve().parent.parent / "valgrind"
 # Where distributions put what Valgrind's own launcher and tools take.
-FOLDERS = ("/usr/libexec/valgrind", "/usr/lib/x86_64-linux-gnu/valgrind", "/usr/lib64/valgrind", "/usr/lib/valgrind", "/usr/local/libexec/valgrind", "/usr/local/lib/valgrind")
+FOLDERS = (
+    "/usr/libexec/valgrind", "/usr/lib/x86_64-linux-gnu/valgrind", "/usr/lib64/valgrind",
+    "/usr/lib/valgrind", "/usr/local/libexec/valgrind", "/usr/local/lib/valgrind",
+)
 PRELOAD = "vgpreload_core-amd64-linux.so"
 NAME = "kistalub"
 HINT = "(apt-get install valgrind)"
@@ -44,19 +48,28 @@ def _version() -> str:
     launcher = shutil.which("valgrind")
     if launcher is None:
         raise Fault(f"valgrind is not installed {HINT}")
-    return "\n".join(f"{os.path.realpath(file)} {os.stat(file).st_size} {os.stat(file).st_mtime_ns}" for file in (launcher, str(folder() / "none-amd64-linux")))
+    return "\n".join(
+        f"{os.path.realpath(file)} {os.stat(file).st_size} {os.stat(file).st_mtime_ns}"
+        for file in (launcher, str(folder() / "none-amd64-linux"))
+    )
 
 
 def tool() -> Path:
-    """The tool, built if it is not there yet. Of two processes that build it at once each does, and the last one's is kept."""
+    """The tool, built if it is not there yet. Of two processes that build it at once each does, and
+    the last one's is kept."""
     sources = [SOURCES / "build", *sorted(SOURCES.glob("*.[ch]"))]
     text = b"\0".join([_version().encode(), *(source.read_bytes() for source in sources)])
-    program = cache_folder() / f"valgrind-{hashlib.sha256(text).hexdigest()[:32]}" / f"{NAME}-amd64-linux"
+    program = (
+        cache_folder() / f"valgrind-{hashlib.sha256(text).hexdigest()[:32]}" / f"{NAME}-amd64-linux"
+    )
     if not program.exists():
         program.parent.mkdir(exist_ok=True)
         done = run_group(["/bin/sh", str(SOURCES / "build"), str(program)])
         if done.returncode:
-            raise Fault(done.stderr.strip() or f"the tool of Valgrind can't be built: status {done.returncode}")
+            raise Fault(
+                done.stderr.strip()
+                or f"the tool of Valgrind can't be built: status {done.returncode}"
+            )
     return program
 
 
@@ -69,7 +82,8 @@ def folder() -> Path:
 
 
 def _own_folder() -> Path:
-    """Where Valgrind finds the tool beside what its own tools take, also for the programs that a program starts."""
+    """Where Valgrind finds the tool beside what its own tools take, also for the programs that a
+    program starts."""
     own = tool().parent
     others = folder()
     for file in (*others.glob("vgpreload_core-*"), *others.glob("*.supp"), *others.glob("*.xml")):
@@ -82,8 +96,13 @@ def _own_folder() -> Path:
 
 
 def command(words: list[str], program: str, arguments: list[str]) -> list[str]:
-    """What starts a program under the tool, with the tool's own words. Threads run one after the other: one that waits for another lets each run before it goes on."""
-    return [str(tool()), f"--tool={NAME}", "--quiet", "--vgdb=no", "--fair-sched=try", f"--max-threads={MOST_THREADS}", "--sigill-diagnostics=no", *words, "--", program, *arguments]
+    """What starts a program under the tool, with the tool's own words. Threads run one after the
+    other: one that waits for another lets each run before it goes on."""
+    return [
+        str(tool()), f"--tool={NAME}", "--quiet", "--vgdb=no", "--fair-sched=try",
+        f"--max-threads={MOST_THREADS}", "--sigill-diagnostics=no", *words, "--", program,
+        *arguments,
+    ]
 
 
 def of_one_length(folder: str) -> str:
@@ -93,11 +112,20 @@ def of_one_length(folder: str) -> str:
 
 
 def environment(words: list[str], changes: Mapping[str, str]) -> dict[str, str]:
-    """This process's environment with these changes, for a program with these words, and what Valgrind's core wants to find there. A variable is as long as it
-    takes for the program's stack to begin at the same place whatever else is in the environment: words and variables stand above."""
-    whole = {**os.environ, **changes, "VALGRIND_LIB": of_one_length(str(_own_folder())), "VALGRIND_LAUNCHER": shutil.which("valgrind") or "valgrind"}
+    """This process's environment with these changes, for a program with these words, and what
+    Valgrind's core wants to find there. A variable is as long as it takes for the program's stack
+    to begin at the same place whatever else is in the environment: words and variables stand
+    above."""
+    whole = {
+        **os.environ,
+        **changes,
+        "VALGRIND_LIB": of_one_length(str(_own_folder())),
+        "VALGRIND_LAUNCHER": shutil.which("valgrind") or "valgrind",
+    }
     whole.pop(PADDING, None)
-    strings = [os.fsencode(word) for word in words] + [os.fsencode(f"{name}={value}") for name, value in whole.items()]
+    strings = [os.fsencode(word) for word in words] + [
+        os.fsencode(f"{name}={value}") for name, value in whole.items()
+    ]
     size = sum(len(string) + 1 + POINTER for string in strings) + len(PADDING) + 2 + POINTER
     size += len(os.fsencode(words[0])) + 1  # the program's path stands there once more
     return {**whole, PADDING: "." * (LEAST_PADDING + -(size + LEAST_PADDING) % STACK_ROOM)}

@@ -17,19 +17,31 @@ def named_variants(tools: list[Tool]) -> str:
 
 def modules_of_words(tools: list[Tool]) -> list[str]:
     words = sorted(tool.words for tool in tools)
-    return [*(f"pub mod {name};" for name in words), "", *(f"pub use {name}::{camel(name)}Words;" for name in words)]
+    return [
+        *(f"pub mod {name};" for name in words), "",
+        *(f"pub use {name}::{camel(name)}Words;" for name in words),
+    ]
 
 
 def rows_of_words(tools: list[Tool]) -> list[str]:
-    return [f'        "{tool.name}" => Ok(Command::{tool.variant}(read_tool(alloc, words)?)),' for tool in tools]
+    return [
+        f'        "{tool.name}" => Ok(Command::{tool.variant}(read_tool(alloc, words)?)),'
+        for tool in tools
+    ]
 
 
 def types_of_words(tools: list[Tool]) -> list[str]:
-    return [f"use crate::{tool.words}::{tool.type};" for tool in sorted(tools, key=lambda tool: tool.words)]
+    return [
+        f"use crate::{tool.words}::{tool.type};"
+        for tool in sorted(tools, key=lambda tool: tool.words)
+    ]
 
 
 def variants(tools: list[Tool]) -> list[str]:
-    return [line for tool in tools for line in (f"    /// `{tool.name}`: {tool.does}.", f"    {tool.variant}({tool.type}),")]
+    return [
+        line for tool in tools
+        for line in (f"    /// `{tool.name}`: {tool.does}.", f"    {tool.variant}({tool.type}),")
+    ]
 
 
 def forms(tools: list[Tool]) -> list[str]:
@@ -37,12 +49,21 @@ def forms(tools: list[Tool]) -> list[str]:
 
 
 def uses_of_forms(tools: list[Tool]) -> list[str]:
-    return [named_variants(tools), *(f"use Rattle.tool_words.specs.{camel(tool.words)}Form.{{{tool.words}_form}}" for tool in tools)]
+    return [
+        named_variants(tools),
+        *(
+            f"use Rattle.tool_words.specs.{camel(tool.words)}Form.{{{tool.words}_form}}"
+            for tool in tools
+        ),
+    ]
 
 
 def rows_of_forms(tools: list[Tool]) -> list[str]:
     rows = [f'tool (codes "{tool.name}") {tool.variant} {tool.words}_form' for tool in tools]
-    return ["-- the tools, a row each", "abbrev pub tools : List Tool", "tools =", f"    {rows[0]}", *(f"    ∷ {row}" for row in rows[1:]), "    ∷ []"]
+    return [
+        "-- the tools, a row each", "abbrev pub tools : List Tool", "tools =", f"    {rows[0]}",
+        *(f"    ∷ {row}" for row in rows[1:]), "    ∷ []",
+    ]
 
 
 # The files, and what stands there between the marks with a word.

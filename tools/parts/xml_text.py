@@ -1,13 +1,17 @@
-"""Text in a picture or on a page: what is made of names, words and files shows as text, whatever it is."""
+"""Text in a picture or on a page: what is made of names, words and files shows as text, whatever it
+is."""
 
 from __future__ import annotations
 
 import re
 from html import escape
 
-# What no document of XML 1.0 or HTML has: most control characters, halves of pairs, and two that are no characters. Those that change a line or hide what
-# stands in it are taken out too.
-UNFIT = re.compile("[\x00-\x08\x0b\x0c\x0e-\x1f\x7f-\x9f\ud800-\udfff\u2028\u2029\u202a-\u202e\u2066-\u2069\ufffe\uffff]")
+# What no document of XML 1.0 or HTML has: most control characters, halves of pairs, and two that
+# are no characters. Those that change a line or hide what stands in it are taken out too.
+UNFIT = re.compile(
+    "[\x00-\x08\x0b\x0c\x0e-\x1f\x7f-\x9f\ud800-\udfff"
+    "\u2028\u2029\u202a-\u202e\u2066-\u2069\ufffe\uffff]"
+)
 SPACES = re.compile("[\t\n\r]")
 
 

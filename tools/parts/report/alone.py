@@ -1,4 +1,5 @@
-"""Why events do not fit together, as a picture by itself; or, if they do, which counter each has."""
+"""Why events do not fit together, as a picture by itself; or, if they do, which counter each
+has."""
 
 from __future__ import annotations
 
@@ -20,7 +21,8 @@ TEXT = re.compile("[!-~]+")  # of an event in a script
 
 
 def picture_of_events(tables: Tables, events: Sequence[str]) -> str:
-    """An SVG picture of these events added to a new set in their order, up to the first that does not fit."""
+    """An SVG picture of these events added to a new set in their order, up to the first that does
+    not fit."""
     for event in events:
         if not TEXT.fullmatch(event):
             raise Fault(f"{event!r}: no event of a script: it has other characters than ! to ~")
@@ -31,15 +33,26 @@ def picture_of_events(tables: Tables, events: Sequence[str]) -> str:
         steps, _ = read_replies(calls_of(script), tools.run(script).lines)
         for step in steps:
             if step.is_refused and step.code != CONFLICT:
-                raise Fault(f"{step.call.arguments[1]}: {step.code}: {SENTENCES.get(step.code, 'refused')}")
+                raise Fault(
+                    f"{step.call.arguments[1]}: {step.code}: {SENTENCES.get(step.code, 'refused')}"
+                )
         story = tell_story(steps, [None] * len(steps), [])
         pictures = Pictures(tools, read_counters(tables.unit))
         if not story.conflicts:
             picture = pictures.of_setup(story.setups[(0, 0)])
-            return draw_alone(_titled(picture, f"{counted(len(events), 'event')}, each with a counter of its own", ()))
+            return draw_alone(
+                _titled(
+                    picture, f"{counted(len(events), 'event')}, each with a counter of its own", ()
+                )
+            )
         conflict = story.conflicts[0]
         reason = why_not(len(conflict.blamed), conflict.counters)
-        return draw_alone(_titled(pictures.of_conflict(conflict), f"{conflict.event} does not fit", tuple(re.split(r"(?<=\.) ", reason))))
+        return draw_alone(
+            _titled(
+                pictures.of_conflict(conflict), f"{conflict.event} does not fit",
+                tuple(re.split(r"(?<=\.) ", reason)),
+            )
+        )
 
 
 def _titled(picture: Picture | None, title: str, lines: tuple[str, ...]) -> Picture:

@@ -1,4 +1,5 @@
-"""The tools of this repository, run by their scripts in bin/. All that a report shows is what they print."""
+"""The tools of this repository, run by their scripts in bin/. All that a report shows is what they
+print."""
 
 from __future__ import annotations
 
@@ -16,7 +17,8 @@ from parts.started import ends_with_parent, temporary_folder
 ROOT = Path(__file__).resolve().parents[3]
 DONE, SAYS_NO, REFUSED, READ_FAULT = range(4)
 NOT_TWICE = "not a file that can be read twice"
-OF_BUILD = "papi: the proved program "  # the scripts of bin/ begin so what they say of the program itself
+# the scripts of bin/ begin so what they say of the program itself
+OF_BUILD = "papi: the proved program "
 
 
 @dataclass(frozen=True)
@@ -29,7 +31,10 @@ class Tables:
 
     def words(self, with_presets: bool = True) -> list[str]:
         given = [f"-U{self.unit}"]
-        return [*given, f"-P{self.presets}", f"-C{self.cpu}"] if with_presets and self.presets is not None else given
+        return (
+            [*given, f"-P{self.presets}", f"-C{self.cpu}"]
+            if with_presets and self.presets is not None else given
+        )
 
 
 @dataclass(frozen=True)
@@ -43,12 +48,18 @@ class Answer:
         return [line for line in self.errors if not line.startswith(OF_BUILD)]
 
 
-def _answer_of(command: Sequence[str], environment: Mapping[str, str], to: int | None = subprocess.PIPE) -> Answer:
-    """What a command answers. If this process is told to end, the command is too. With `to` its standard error goes elsewhere."""
+def _answer_of(
+    command: Sequence[str], environment: Mapping[str, str], to: int | None = subprocess.PIPE
+) -> Answer:
+    """What a command answers. If this process is told to end, the command is too. With `to` its
+    standard error goes elsewhere."""
     child: subprocess.Popen[bytes] | None = None
     try:
         with uninterrupted():
-            child = subprocess.Popen(command, stdin=subprocess.DEVNULL, stdout=subprocess.PIPE, stderr=to, env=environment, preexec_fn=ends_with_parent())
+            child = subprocess.Popen(
+                command, stdin=subprocess.DEVNULL, stdout=subprocess.PIPE, stderr=to,
+                env=environment, preexec_fn=ends_with_parent(),
+            )
         out, errors = child.communicate()
     except BaseException:
         if child is not None:
@@ -56,7 +67,13 @@ def _answer_of(command: Sequence[str], environment: Mapping[str, str], to: int |
                 child.terminate()
         raise
     heed_signal(child.returncode)
-    return Answer(child.returncode, *(output.decode("utf-8", "surrogateescape").splitlines() for output in (out, errors or b"")))
+    return Answer(
+        child.returncode,
+        *(
+            output.decode("utf-8", "surrogateescape").splitlines()
+            for output in (out, errors or b"")
+        ),
+    )
 
 
 def read_again(name: str) -> list[str]:
@@ -75,7 +92,8 @@ def check_files(names: Iterable[str]) -> None:
 
 
 class Tools:
-    """Runs the tools over the same tables. Scripts that it is given as lines go through a file of its own."""
+    """Runs the tools over the same tables. Scripts that it is given as lines go through a file of
+    its own."""
 
     def __init__(self, tables: Tables):
         self.tables = tables
@@ -93,11 +111,19 @@ class Tools:
     def __exit__(self, *error: object) -> None:
         self._made.__exit__(None, None, None)
 
-    def ask(self, tool: str, options: Sequence[str] = (), words: Sequence[str] = (), hints: bool = False) -> Answer:
-        """What a tool answers: its lines on both outputs, and its status. A refusal without an output is a fault."""
-        command = [str(ROOT / "bin" / tool), *self.tables.words(tool != "papi_native_avail"), *options, *(["--", *words] if words else [])]
+    def ask(
+        self, tool: str, options: Sequence[str] = (), words: Sequence[str] = (), hints: bool = False
+    ) -> Answer:
+        """What a tool answers: its lines on both outputs, and its status. A refusal without an
+        output is a fault."""
+        command = [
+            str(ROOT / "bin" / tool), *self.tables.words(tool != "papi_native_avail"), *options,
+            *(["--", *words] if words else []),
+        ]
         answer = _answer_of(command, {**os.environ, "KISTALUB_HINTS": "1" if hints else "0"})
-        if answer.status not in (DONE, SAYS_NO) and (answer.status not in (REFUSED, READ_FAULT) or not answer.lines):
+        if answer.status not in (DONE, SAYS_NO) and (
+            answer.status not in (REFUSED, READ_FAULT) or not answer.lines
+        ):
             said, *more = answer.said() or [f"{tool} ended with status {answer.status}"]
             raise Fault(said, max(answer.status, 1), more)
         return answer
@@ -105,7 +131,9 @@ class Tools:
     def written(self, name: str, lines: Sequence[str]) -> str:
         """A file with these lines."""
         path = self._folder / name
-        path.write_text("".join(f"{line}\n" for line in lines), encoding="utf-8", errors="surrogateescape")
+        path.write_text(
+            "".join(f"{line}\n" for line in lines), encoding="utf-8", errors="surrogateescape"
+        )
         return str(path)
 
     def run(self, script: Sequence[str], streams: Sequence[str] = ()) -> Answer:
@@ -113,7 +141,8 @@ class Tools:
         return self.ask("papi_run", ["--notes"], [self.written("script", script), *streams])
 
     def natives_of(self, event: str) -> tuple[str, ...]:
-        """The canonical names of the native events of an event, whatever names it: none if nothing has this name."""
+        """The canonical names of the native events of an event, whatever names it: none if nothing
+        has this name."""
         if event not in self._natives:
             self._natives[event] = self._of_preset(event) or self._of_native(event)
         return self._natives[event]
@@ -124,7 +153,8 @@ class Tools:
         return bool(natives) and event in self._presets
 
     def name_in_set(self, event: str) -> str:
-        """What the call `events` says of an event that a set has: the canonical name of a native one."""
+        """What the call `events` says of an event that a set has: the canonical name of a native
+        one."""
         natives = self.natives_of(event)
         return natives[0] if natives and not self.is_preset(event) else event
 
@@ -136,7 +166,10 @@ class Tools:
     def _of_preset(self, event: str) -> tuple[str, ...]:
         if self.tables.presets is None or ":" in event:
             return ()
-        natives = tuple(value for name, value in self._fields("papi_avail", event).items() if name.startswith("Native "))
+        natives = tuple(
+            value for name, value in self._fields("papi_avail", event).items()
+            if name.startswith("Native ")
+        )
         if natives:
             self._presets.add(event)
         return natives
@@ -151,4 +184,7 @@ class Tools:
     def _fields(self, tool: str, event: str) -> dict[str, str]:
         """The lines `NAME: VALUE` of a tool about one event."""
         answer = self.ask(tool, [f"-e{event}"])
-        return {} if answer.status else dict(re.split(": ?", line, maxsplit=1) for line in answer.lines)
+        return (
+            {} if answer.status
+            else dict(re.split(": ?", line, maxsplit=1) for line in answer.lines)
+        )

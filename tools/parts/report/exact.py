@@ -1,4 +1,5 @@
-"""What multiplexed sets would have counted without turns: the same calls over a unit whose events are allowed any of many counters."""
+"""What multiplexed sets would have counted without turns: the same calls over a unit whose events
+are allowed any of many counters."""
 
 from __future__ import annotations
 
@@ -20,7 +21,8 @@ LEFT_OUT = ("multiplex", "assign", "raw", "state")
 
 
 def unlimited_unit(unit: str) -> list[str] | None:
-    """The rows of a unit file with 32 counters for each event, or none if they are too many bytes for one."""
+    """The rows of a unit file with 32 counters for each event, or none if they are too many bytes
+    for one."""
     rows: list[str] = []
     try:
         table = read_table(unit)
@@ -29,7 +31,10 @@ def unlimited_unit(unit: str) -> list[str] | None:
     for row in table:
         kind, *fields = row.fields()
         if kind == "COMPONENT":
-            rows += [f"COMPONENT,{fields[0]},{fields[1]}", *(f"COUNTER,{name},{BITS},P" for name in COUNTERS)]
+            rows += [
+                f"COMPONENT,{fields[0]},{fields[1]}",
+                *(f"COUNTER,{name},{BITS},P" for name in COUNTERS),
+            ]
         elif kind == "EVENT":
             rows.append(f"EVENT,{fields[0]},{fields[1]},{' '.join(COUNTERS)},")
         elif kind == "UMASK":
@@ -38,9 +43,13 @@ def unlimited_unit(unit: str) -> list[str] | None:
 
 
 def exact_story(tools: Tools, steps: Sequence[Step], streams: Sequence[str]) -> Story | None:
-    """The story of the calls that were carried out, with no set in turns. None if it can't be told."""
+    """The story of the calls that were carried out, with no set in turns. None if it can't be
+    told."""
     unit = unlimited_unit(tools.tables.unit)
-    script = [" ".join((str(step.call.thread), step.call.name, *step.call.arguments)) for step in steps if not step.is_refused and step.call.name not in LEFT_OUT]
+    script = [
+        " ".join((str(step.call.thread), step.call.name, *step.call.arguments)) for step in steps
+        if not step.is_refused and step.call.name not in LEFT_OUT
+    ]
     if unit is None or not script:
         return None
     try:
@@ -50,4 +59,7 @@ def exact_story(tools: Tools, steps: Sequence[Step], streams: Sequence[str]) -> 
         return None
     if any(step.is_refused for step in exact):
         return None
-    return tell_story(exact, [None] * len(exact), [], None if any(step.call.name == "events" for step in exact) else tools.name_in_set)
+    return tell_story(
+        exact, [None] * len(exact), [],
+        None if any(step.call.name == "events" for step in exact) else tools.name_in_set,
+    )

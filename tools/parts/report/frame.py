@@ -1,4 +1,5 @@
-"""The frame of a page: its head with the style and the script in it, what stands at its top, and its sections."""
+"""The frame of a page: its head with the style and the script in it, what stands at its top, and
+its sections."""
 
 from __future__ import annotations
 
@@ -23,7 +24,8 @@ class Section:
 
 @dataclass(frozen=True)
 class Top:
-    """What stands above the sections: what kind of page it is, its title, the kinds and names of its files, tiles, and the chips that pick what is shown."""
+    """What stands above the sections: what kind of page it is, its title, the kinds and names of
+    its files, tiles, and the chips that pick what is shown."""
 
     kind: str
     title: str
@@ -45,26 +47,44 @@ def _head(title: str, style: str) -> Markup:
 
 
 def chip(text: str, tone: str, **data: object) -> Markup:
-    return element("button", text, type="button", class_=f"chip {tone}".strip(), aria_pressed="false", **data)
+    return element(
+        "button", text, type="button", class_=f"chip {tone}".strip(), aria_pressed="false", **data
+    )
 
 
 def chips(label: str, body: Sequence[Markup]) -> Markup:
-    return element("div", element("span", "Show"), body, class_="filter", role="group", aria_label=label)
+    return element(
+        "div", element("span", "Show"), body, class_="filter", role="group", aria_label=label
+    )
 
 
 def framed(top: Top, sections: Sequence[Section], maker: str, style: str = "") -> str:
     """The whole page as a text. Sections without a body are left out."""
     kept = [section for section in sections if section.body]
     links = [element("a", section.title, href=f"#{section.key}") for section in kept]
-    listed = [element("span", element("b", kind), " ", element("code", name)) for kind, name in top.files]
-    header = element("header", element("p", top.kind, class_="over"), element("h1", top.title), element("p", listed, class_="files"), top.tiles)
+    listed = [
+        element("span", element("b", kind), " ", element("code", name)) for kind, name in top.files
+    ]
+    header = element(
+        "header", element("p", top.kind, class_="over"), element("h1", top.title),
+        element("p", listed, class_="files"), top.tiles,
+    )
     bar = element("div", element("nav", links), top.chips, class_="bar-top")
     body = [
-        element("section", element("h2", section.title), [element("p", section.lead, class_="lead")] * bool(section.lead), section.body,
-                id=section.key, class_="card")
+        element(
+            "section", element("h2", section.title),
+            [element("p", section.lead, class_="lead")] * bool(section.lead), section.body,
+            id=section.key, class_="card",
+        )
         for section in kept
     ]
     script = element("script", Markup((FOLDER / "page.js").read_text(encoding="utf-8")))
-    foot = element("footer", f"Made by {maker} of Kistalub. The page has all that it needs and fetches nothing.")
-    page = element("html", _head(top.title, style), element("body", header, bar, element("main", body), foot, script), lang="en")
+    foot = element(
+        "footer",
+        f"Made by {maker} of Kistalub. The page has all that it needs and fetches nothing.",
+    )
+    page = element(
+        "html", _head(top.title, style),
+        element("body", header, bar, element("main", body), foot, script), lang="en",
+    )
     return f"<!DOCTYPE html>\n{page}\n"

@@ -1,4 +1,5 @@
-"""A report from its files: the tools are run, their answers are read as a story, and each section is drawn."""
+"""A report from its files: the tools are run, their answers are read as a story, and each section
+is drawn."""
 
 from __future__ import annotations
 
@@ -54,7 +55,9 @@ class Report:
     def __init__(self, tools: Tools, asked: Asked):
         self.tools = tools
         self.asked = asked
-        self.answer: Answer = tools.ask("papi_run", ["--notes"], [asked.script, *asked.streams], hints=True)
+        self.answer: Answer = tools.ask(
+            "papi_run", ["--notes"], [asked.script, *asked.streams], hints=True
+        )
         pass_on(self.answer.errors)
         self.said = [line for line in self.answer.said() if not BESIDE_ITS_CALL.match(line)]
         self.steps, self.notes = read_replies(calls_of(read_again(asked.script)), self.answer.lines)
@@ -71,14 +74,23 @@ class Report:
         steps, notes = read_replies(calls_of(probe.lines), answer.lines)
         self._lines = probe.origins
         in_turns = any(step.is_done and step.call.name == "multiplex" for step in steps)
-        self.without_turns = exact_story(self.tools, steps, self.asked.streams) if in_turns else None
-        return tell_story(steps, probe.origins, notes, None if probe.asks else self.tools.name_in_set)
+        self.without_turns = (
+            exact_story(self.tools, steps, self.asked.streams) if in_turns else None
+        )
+        return tell_story(
+            steps, probe.origins, notes, None if probe.asks else self.tools.name_in_set
+        )
 
     def page(self) -> str:
         asked = self.asked
-        named = [("unit", asked.tables.unit), ("presets", asked.tables.presets), ("processor", asked.tables.cpu), ("script", asked.script)]
+        named = [
+            ("unit", asked.tables.unit), ("presets", asked.tables.presets),
+            ("processor", asked.tables.cpu), ("script", asked.script),
+        ]
         named += [(f"stream {thread}", stream) for thread, stream in enumerate(asked.streams)]
-        named += [("map", asked.place.map), ("program", asked.place.program), ("regions", asked.regions)]
+        named += [
+            ("map", asked.place.map), ("program", asked.place.program), ("regions", asked.regions),
+        ]
         files = [(kind, name) for kind, name in named if name is not None]
         title = asked.title if asked.title is not None else asked.script.rpartition("/")[2]
         streams = dict(enumerate(asked.streams))
@@ -88,20 +100,60 @@ class Report:
 
     def sections(self, streams: dict[int, str], totals: list[Total]) -> list[Section]:
         return [
-            Section("errors", "What the tools said", "", [element("pre", "\n".join(self.said), class_="notice")] if self.said else []),
-            Section("totals", "Totals", self._about_totals(), [*draw_totals(totals), *draw_ratios(totals)]),
-            Section("time", "Threads in time", f"From left to right the {self.unit} of a thread. A bar is a stretch in which a set ran, a triangle a threshold "
-                    "that was passed, an upright line a place at which the count was zeroed, and a colour within a bar the group that had its turn.",
-                    draw_timelines(self.story, streams, self.timing_of, self.times) if self.story.spans else []),
+            Section(
+                "errors", "What the tools said", "",
+                [element("pre", "\n".join(self.said), class_="notice")] if self.said else [],
+            ),
+            Section(
+                "totals", "Totals", self._about_totals(),
+                [*draw_totals(totals), *draw_ratios(totals)],
+            ),
+            Section(
+                "time",
+                "Threads in time",
+                f"From left to right the {self.unit} of a thread. A bar is a stretch in which a "
+                "set ran, a triangle a threshold "
+                "that was passed, an upright line a place at which the count was zeroed, and a "
+                "colour within a bar the group that had its turn.",
+                draw_timelines(self.story, streams, self.timing_of, self.times)
+                if self.story.spans
+                else [],
+            ),
             Section("curves", "Counts over time", self._read_every(), self._curves()),
-            Section("counters", "Events and counters", "A ring is a counter that a native event may have, a disc the one that it has.", self._setups()),
-            Section("conflicts", "Conflicts", "Events fit if each finds a counter of its own. They do not fit if some of them are together allowed fewer "
-                    "counters than they are: those are marked.", self._conflicts()),
+            Section(
+                "counters", "Events and counters",
+                "A ring is a counter that a native event may have, a disc the one that it has.",
+                self._setups(),
+            ),
+            Section(
+                "conflicts",
+                "Conflicts",
+                "Events fit if each finds a counter of its own. They do not fit if some of them "
+                "are together allowed fewer "
+                "counters than they are: those are marked.",
+                self._conflicts(),
+            ),
             Section("profile", "Where thresholds were passed", "", self._profiles()),
-            Section("regions", "Regions", "What each region counted, by the regions that it stands in. The bar is its share of the first event.", self._regions()),
-            Section("script", "Script and replies", "Each call with what it was answered.", draw_script(self.steps, self.story.names, RULES)),
-            Section("rules", "Rules", "A call is refused by the first of these that holds, in this order. ENOEVST is a set that is not there, EISRUN one that runs, "
-                    "ENOTRUN one that does not.", self._rules()),
+            Section(
+                "regions", "Regions",
+                (
+                    "What each region counted, by the regions that it stands in. The bar is its "
+                    "share of the first event."
+                ),
+                self._regions(),
+            ),
+            Section(
+                "script", "Script and replies", "Each call with what it was answered.",
+                draw_script(self.steps, self.story.names, RULES),
+            ),
+            Section(
+                "rules",
+                "Rules",
+                "A call is refused by the first of these that holds, in this order. ENOEVST is a "
+                "set that is not there, EISRUN one that runs, "
+                "ENOTRUN one that does not.",
+                self._rules(),
+            ),
         ]
 
     def timing_of(self, span: Span) -> Timing | None:
@@ -111,11 +163,15 @@ class Report:
         clock = self._clock(span.thread)
         groups = self._groups(span.setup)
         turns = turns_of(span, max(len(groups), 1), clock, MOST_TURNS) if groups else []
-        return Timing(groups, turns, -(-(clock.at(span.end) - clock.at(span.start)) // span.setup.slice))
+        return Timing(
+            groups, turns, -(-(clock.at(span.end) - clock.at(span.start)) // span.setup.slice)
+        )
 
     def _clock(self, thread: int) -> Clock:
         if thread not in self.clocks:
-            self.clocks[thread] = clock_of(self.asked.streams[thread] if thread < len(self.asked.streams) else None)
+            self.clocks[thread] = clock_of(
+                self.asked.streams[thread] if thread < len(self.asked.streams) else None
+            )
         return self.clocks[thread]
 
     def _groups(self, setup: Setup) -> list[Group]:
@@ -124,15 +180,27 @@ class Report:
         return self.groups[setup.events]
 
     def _read_every(self) -> str:
-        how = f"Each set is read every {counted(self.asked.every, 'occurrence')} of its thread." if self.asked.every else \
-            "Each set is read at some 240 places of its thread, and where the script reads it."
-        return f"{how} A set counts from its start, or from where it was zeroed. From left to right stand {self.unit}."
+        how = (
+            f"Each set is read every {counted(self.asked.every, 'occurrence')} of its thread."
+            if self.asked.every
+            else "Each set is read at some 240 places of its thread, and where the script reads it."
+        )
+        return (
+            f"{how} A set counts from its start, or from where it was zeroed. From left to right "
+            f"stand {self.unit}."
+        )
 
     def _about_totals(self) -> str:
-        told = "The last value of each event, and the occurrences of the thread over which it was counted."
+        told = (
+            "The last value of each event, and the occurrences of the thread over which it was "
+            "counted."
+        )
         if self.without_turns is None:
             return told
-        return f"{told} The exact values beside estimates are of one more run, in which each native event has a counter and no set takes turns."
+        return (
+            f"{told} The exact values beside estimates are of one more run, in which each native "
+            "event has a counter and no set takes turns."
+        )
 
     def _curves(self) -> list[Markup]:
         made: list[Markup] = []
@@ -144,19 +212,36 @@ class Report:
             if charts := draw_curves(span, self.times[span.thread]):
                 drawn += len(charts)
                 until = "the end" if span.is_open else f"{span.end:,}"
-                head = element("h3", f"Set {span.set} of thread {span.thread}", element("small", f"from occurrence {span.start:,} to {until}"))
-                made.append(element("section", head, element("div", charts, class_="curves"), data_thread=span.thread, data_set=f"{span.thread}.{span.set}"))
+                head = element(
+                    "h3", f"Set {span.set} of thread {span.thread}",
+                    element("small", f"from occurrence {span.start:,} to {until}"),
+                )
+                made.append(
+                    element(
+                        "section", head, element("div", charts, class_="curves"),
+                        data_thread=span.thread, data_set=f"{span.thread}.{span.set}",
+                    )
+                )
         return made
 
     def _setups(self) -> list[Markup]:
         """A picture for each set as it ran, and as it is now if it never did."""
         shown: list[tuple[int, int, Setup]] = []
         for span in self.story.spans:
-            if all((span.thread, span.set) != (thread, number) or span.setup.events != setup.events for thread, number, setup in shown):
+            if all(
+                (span.thread, span.set) != (thread, number) or span.setup.events != setup.events
+                for thread, number, setup in shown
+            ):
                 shown.append((span.thread, span.set, span.setup))
         ran = {(thread, number) for thread, number, _ in shown}
-        shown += [(*key, setup) for key, setup in sorted(self.story.setups.items()) if key not in ran and setup.events]
-        made = [part for thread, number, setup in shown[:MOST_PICTURES] for part in self._setup(thread, number, setup)]
+        shown += [
+            (*key, setup) for key, setup in sorted(self.story.setups.items())
+            if key not in ran and setup.events
+        ]
+        made = [
+            part for thread, number, setup in shown[:MOST_PICTURES]
+            for part in self._setup(thread, number, setup)
+        ]
         return [element("div", made, class_="pictures")] * bool(made) + _left_out(len(shown), "set")
 
     def _setup(self, thread: int, number: int, setup: Setup) -> list[Markup]:
@@ -180,13 +265,26 @@ class Report:
             if picture is not None:
                 call = conflict.step.call
                 line = self._line_of(conflict.step)
-                told = f": {conflict.event} does not fit into set {call.arguments[0]} of thread {call.thread}. {why_not(len(conflict.blamed), conflict.counters)}"
+                told = (
+                    f": {conflict.event} does not fit into set {call.arguments[0]} of thread "
+                    f"{call.thread}. {why_not(len(conflict.blamed), conflict.counters)}"
+                )
                 link = element("a", f"Line {line}", href=f"#line-{line}")
-                made.append(_figure(link, told, draw(picture), call.thread, int(call.arguments[0]), f"conflict-{line}"))
-        return [element("div", made, class_="pictures")] * bool(made) + _left_out(len(self.story.conflicts), "conflict")
+                made.append(
+                    _figure(
+                        link, told, draw(picture), call.thread, int(call.arguments[0]),
+                        f"conflict-{line}",
+                    )
+                )
+        return [element("div", made, class_="pictures")] * bool(made) + _left_out(
+            len(self.story.conflicts), "conflict"
+        )
 
     def _profiles(self) -> list[Markup]:
-        return draw_profiles(self.tools, self.asked.place, self.asked.script, self.asked.streams, self.notes, self._names_of_notes())
+        return draw_profiles(
+            self.tools, self.asked.place, self.asked.script, self.asked.streams, self.notes,
+            self._names_of_notes(),
+        )
 
     def _line_of(self, step: Step) -> int:
         return self._lines[step.call.line - 1] or 0
@@ -202,31 +300,54 @@ class Report:
     def _regions(self) -> list[Markup]:
         if self.asked.regions is None:
             return []
-        return draw_regions(read_tree(self.tools, self.asked.regions, self.asked.events, self.asked.streams), self.asked.events.split(","))
+        return draw_regions(
+            read_tree(self.tools, self.asked.regions, self.asked.events, self.asked.streams),
+            self.asked.events.split(","),
+        )
 
     def _rules(self) -> list[Markup]:
         refused = [step for step in self.steps if step.is_refused]
         calls = sorted({step.call.name for step in refused} & set(RULES))
         if not calls:
             return []
-        rows = [[element("dt", call, id=f"rule-{call}"), element("dd", RULES[call])] for call in calls]
+        rows = [
+            [element("dt", call, id=f"rule-{call}"), element("dd", RULES[call])] for call in calls
+        ]
         named = any(OF_NAME in RULES[call] for call in calls)
-        faults = [[element("dt", code), element("dd", f"{where} ({fault})")] for fault, where, code in NAME_FAULTS] if named else []
+        faults = (
+            [
+                [element("dt", code), element("dd", f"{where} ({fault})")]
+                for fault, where, code in NAME_FAULTS
+            ]
+            if named
+            else []
+        )
         more = [element("h3", "The name's code"), element("dl", faults)] if faults else []
         return [element("dl", rows), *more]
 
 
-def _figure(head: Markup | str, told: str, picture: Markup, thread: int, number: int, key: str | None = None) -> Markup:
+def _figure(
+    head: Markup | str, told: str, picture: Markup, thread: int, number: int, key: str | None = None
+) -> Markup:
     caption = element("figcaption", element("b", head), told)
-    return element("figure", caption, element("div", picture, class_="wide broad"), class_="picture", data_thread=thread, data_set=f"{thread}.{number}", id=key)
+    return element(
+        "figure", caption, element("div", picture, class_="wide broad"), class_="picture",
+        data_thread=thread, data_set=f"{thread}.{number}", id=key,
+    )
 
 
 def _left_out(number: int, word: str, most: int = MOST_PICTURES) -> list[Markup]:
-    return [element("p", f"Left out: {counted(number - most, word)} more.", class_="quiet")] if number > most else []
+    return (
+        [element("p", f"Left out: {counted(number - most, word)} more.", class_="quiet")]
+        if number > most else []
+    )
 
 
 def make_report(asked: Asked) -> str:
-    files = (asked.tables.unit, asked.tables.presets, asked.script, *asked.streams, asked.place.map, asked.place.program, asked.regions)
+    files = (
+        asked.tables.unit, asked.tables.presets, asked.script, *asked.streams, asked.place.map,
+        asked.place.program, asked.regions,
+    )
     check_files(name for name in files if name is not None)
     with Tools(asked.tables) as tools:
         return Report(tools, asked).page()

@@ -1,4 +1,5 @@
-"""Elements of HTML and SVG. All text that is not made here is escaped, so a hostile name shows as text."""
+"""Elements of HTML and SVG. All text that is not made here is escaped, so a hostile name shows as
+text."""
 
 from __future__ import annotations
 
@@ -19,11 +20,16 @@ Child = Union[Markup, str, int, Iterable["Child"], None]
 
 
 def element(name: str, /, *children: Child, **attributes: object) -> Markup:
-    """An element. In the name of an attribute `_` stands for `-`, and one at the end is dropped. Attributes that are None or False are left out."""
+    """An element. In the name of an attribute `_` stands for `-`, and one at the end is dropped.
+    Attributes that are None or False are left out."""
     given = "".join(
-        f' {key.rstrip("_").replace("_", "-")}="{escape(fit(str(value)))}"' for key, value in attributes.items() if value is not None and value is not False
+        f' {key.rstrip("_").replace("_", "-")}="{escape(fit(str(value)))}"'
+        for key, value in attributes.items() if value is not None and value is not False
     )
-    return Markup(f"<{name}{given}>") if name in EMPTY else Markup(f"<{name}{given}>{joined(children)}</{name}>")
+    return (
+        Markup(f"<{name}{given}>") if name in EMPTY
+        else Markup(f"<{name}{given}>{joined(children)}</{name}>")
+    )
 
 
 def joined(child: Child) -> Markup:

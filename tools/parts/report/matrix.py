@@ -1,6 +1,8 @@
-"""A set's native events as rows over the counters of its component: an SVG picture of an assignment, or of why there is none.
+"""A set's native events as rows over the counters of its component: an SVG picture of an
+assignment, or of why there is none.
 
-A conflict is Hall's theorem: some events are together allowed fewer counters than they are. Their rows and these counters are marked.
+A conflict is Hall's theorem: some events are together allowed fewer counters than they are. Their
+rows and these counters are marked.
 """
 
 from __future__ import annotations
@@ -66,18 +68,28 @@ class Picture:
 
     def ordered(self) -> Picture:
         columns = sorted(self.counters, key=lambda counter: counter.name not in self.marked)
-        return replace(self, counters=columns, rows=sorted(self.rows, key=lambda row: not row.is_blamed))
+        return replace(
+            self, counters=columns, rows=sorted(self.rows, key=lambda row: not row.is_blamed)
+        )
 
 
 class _Drawing:
     def __init__(self, picture: Picture):
         self.picture = picture.ordered()
-        longest = max((max(LETTER * len(_cut(row.native)), SMALL_LETTER * len(_cut(row.remark))) for row in picture.rows), default=0.0)
+        longest = max(
+            (
+                max(LETTER * len(_cut(row.native)), SMALL_LETTER * len(_cut(row.remark)))
+                for row in picture.rows
+            ),
+            default=0.0,
+        )
         self.left = MARGIN + max(120.0, longest + 22)
         self.top = MARGIN + (40 if picture.title else 0) + LINE * len(picture.lines) + HEAD
         self.is_roomy = len(picture.counters) <= MOST_WIDE
         names = max((LETTER * len(counter.name) + 12 for counter in picture.counters), default=0)
-        self.column = min(max(COLUMN, round(names)), WIDEST_COLUMN) if self.is_roomy else NARROW_COLUMN
+        self.column = (
+            min(max(COLUMN, round(names)), WIDEST_COLUMN) if self.is_roomy else NARROW_COLUMN
+        )
         self.right = self.left + self.column * len(picture.counters)
         self.bottom = self.top + ROW * len(picture.rows)
         self.place = {counter.name: number for number, counter in enumerate(self.picture.counters)}
@@ -87,30 +99,47 @@ class _Drawing:
         return self.left + self.column * (self.place[counter] + 0.5)
 
     def parts(self) -> list[Markup]:
-        rows = [part for number, row in enumerate(self.picture.rows) for part in self._row(number, row)]
+        rows = [
+            part for number, row in enumerate(self.picture.rows) for part in self._row(number, row)
+        ]
         return self._title() + self._bands() + self._heads() + rows + self._brackets()
 
     def size(self) -> tuple[float, float]:
         extra = BRACKET if self.picture.is_conflict else 0
         width = self.right + MARGIN + extra
         if self.picture.title:
-            width = max(width, 2 * MARGIN + 8.6 * len(self.picture.title), *(2 * MARGIN + 6.7 * len(line) for line in self.picture.lines))
+            width = max(
+                width, 2 * MARGIN + 8.6 * len(self.picture.title),
+                *(2 * MARGIN + 6.7 * len(line) for line in self.picture.lines),
+            )
         return width, self.bottom + MARGIN + (38 if extra and self.picture.marked else 0)
 
     def _title(self) -> list[Markup]:
         if not self.picture.title:
             return []
-        made = [element("text", self.picture.title, class_="m-text m-ink m-bold", x=MARGIN, y=MARGIN + 16, style="font-size:16px")]
+        made = [
+            element(
+                "text", self.picture.title, class_="m-text m-ink m-bold", x=MARGIN, y=MARGIN + 16,
+                style="font-size:16px",
+            )
+        ]
         return made + [
-            element("text", line, class_="m-text m-quiet", x=MARGIN, y=MARGIN + 20 + LINE * number) for number, line in enumerate(self.picture.lines, start=1)
+            element("text", line, class_="m-text m-quiet", x=MARGIN, y=MARGIN + 20 + LINE * number)
+            for number, line in enumerate(self.picture.lines, start=1)
         ]
 
     def _bands(self) -> list[Markup]:
         if not self.picture.is_conflict:
             return []
         high, wide = ROW * self.blamed, self.column * len(self.picture.marked)
-        rows = element("rect", class_="m-band", x=MARGIN - 8, y=self.top, width=f"{self.right - MARGIN + 8:.1f}", height=high, rx=4)
-        columns = element("rect", class_="m-band", x=f"{self.left:.1f}", y=self.top - HEAD + 6, width=wide, height=self.bottom - self.top + HEAD - 6, rx=4)
+        rows = element(
+            "rect", class_="m-band", x=MARGIN - 8, y=self.top,
+            width=f"{self.right - MARGIN + 8:.1f}", height=high, rx=4,
+        )
+        columns = element(
+            "rect", class_="m-band", x=f"{self.left:.1f}", y=self.top - HEAD + 6, width=wide,
+            height=self.bottom - self.top + HEAD - 6, rx=4,
+        )
         return [rows, columns] if wide else [rows]
 
     def _heads(self) -> list[Markup]:
@@ -120,23 +149,52 @@ class _Drawing:
             tone = "m-blame m-bold" if counter.name in self.picture.marked else "m-ink"
             name = _cut(counter.name, int((self.column - 8) / LETTER))
             whole = element("title", counter.name) if name != counter.name else None
-            made.append(element("text", whole, name, class_=f"m-name {tone}", x=x, y=self.top - 36, text_anchor="middle"))
-            for line, remark in enumerate([f"{counter.bits} bit", *["fixed"] * counter.is_fixed] if self.is_roomy else []):
+            made.append(
+                element(
+                    "text", whole, name, class_=f"m-name {tone}", x=x, y=self.top - 36,
+                    text_anchor="middle",
+                )
+            )
+            for line, remark in enumerate(
+                [f"{counter.bits} bit", *["fixed"] * counter.is_fixed] if self.is_roomy else []
+            ):
                 y = self.top - 22 + 12 * line
-                made.append(element("text", remark, class_="m-text m-quiet", x=x, y=y, text_anchor="middle", style="font-size:10px"))
+                made.append(
+                    element(
+                        "text", remark, class_="m-text m-quiet", x=x, y=y, text_anchor="middle",
+                        style="font-size:10px",
+                    )
+                )
         return made
 
     def _row(self, number: int, row: Row) -> list[Markup]:
         top = self.top + ROW * number
         y = top + ROW / 2
         tone = "m-blame" if row.is_blamed else "m-ink"
-        made = [element("line", class_="m-line", x1=MARGIN - 8, x2=f"{self.right:.1f}", y1=top, y2=top)]
-        made.append(element("text", element("title", row.native), _cut(row.native), class_=f"m-name {tone}", x=MARGIN, y=y + (0 if row.remark else 4)))
+        made = [
+            element("line", class_="m-line", x1=MARGIN - 8, x2=f"{self.right:.1f}", y1=top, y2=top)
+        ]
+        made.append(
+            element(
+                "text", element("title", row.native), _cut(row.native), class_=f"m-name {tone}",
+                x=MARGIN, y=y + (0 if row.remark else 4),
+            )
+        )
         if row.remark:
-            made.append(element("text", _cut(row.remark), class_="m-text m-quiet", x=MARGIN, y=y + 13, style="font-size:10px"))
+            made.append(
+                element(
+                    "text", _cut(row.remark), class_="m-text m-quiet", x=MARGIN, y=y + 13,
+                    style="font-size:10px",
+                )
+            )
         if row.counter in self.place:
             way = "m-wonway" if row.is_blamed else "m-way"
-            made.append(element("line", class_=way, x1=f"{self.left - 8:.1f}", x2=f"{self.x(str(row.counter)):.1f}", y1=y, y2=y))
+            made.append(
+                element(
+                    "line", class_=way, x1=f"{self.left - 8:.1f}",
+                    x2=f"{self.x(str(row.counter)):.1f}", y1=y, y2=y,
+                )
+            )
         return made + [self._cell(row, counter.name, y) for counter in self.picture.counters]
 
     def _cell(self, row: Row, counter: str, y: float) -> Markup:
@@ -147,7 +205,10 @@ class _Drawing:
             kind, told = ("m-won" if row.is_blamed else "m-held"), "has"
         else:
             kind, told = ("m-fight" if row.is_blamed else "m-free"), "may have"
-        return element("circle", element("title", f"{row.native} {told} {counter}"), class_=kind, cx=x, cy=y, r=RADIUS)
+        return element(
+            "circle", element("title", f"{row.native} {told} {counter}"), class_=kind, cx=x, cy=y,
+            r=RADIUS,
+        )
 
     def _brackets(self) -> list[Markup]:
         if not self.picture.is_conflict:
@@ -155,13 +216,26 @@ class _Drawing:
         x, y = self.right + 8, self.top + ROW * self.blamed
         made = [
             element("path", class_="m-bracket", d=f"M{x:.1f} {self.top + 4}h6V{y - 4}h-6"),
-            element("text", counted(self.blamed, "event"), class_="m-text m-blame m-bold", x=f"{x + 14:.1f}", y=(self.top + y) / 2 + 4),
+            element(
+                "text", counted(self.blamed, "event"), class_="m-text m-blame m-bold",
+                x=f"{x + 14:.1f}", y=(self.top + y) / 2 + 4,
+            ),
         ]
         if self.picture.marked:
             wide, low = self.column * len(self.picture.marked), self.bottom + 8
-            made.append(element("path", class_="m-bracket", d=f"M{self.left + 4:.1f} {low}v6H{self.left + wide - 4:.1f}v-6"))
+            made.append(
+                element(
+                    "path", class_="m-bracket",
+                    d=f"M{self.left + 4:.1f} {low}v6H{self.left + wide - 4:.1f}v-6",
+                )
+            )
             middle = f"{self.left + wide / 2:.1f}"
-            made.append(element("text", counted(len(self.picture.marked), "counter"), class_="m-text m-blame m-bold", x=middle, y=low + 24, text_anchor="middle"))
+            made.append(
+                element(
+                    "text", counted(len(self.picture.marked), "counter"),
+                    class_="m-text m-blame m-bold", x=middle, y=low + 24, text_anchor="middle",
+                )
+            )
         return made
 
 
@@ -173,8 +247,10 @@ def draw(picture: Picture) -> Markup:
     """The picture as an element for a page, which has the style."""
     drawing = _Drawing(picture)
     width, height = (round(side) for side in drawing.size())
-    return element("svg", element("title", picture.title or "events and counters"), drawing.parts(), width=width, height=height,
-                   viewBox=f"0 0 {width} {height}", role="img", class_="matrix")
+    return element(
+        "svg", element("title", picture.title or "events and counters"), drawing.parts(),
+        width=width, height=height, viewBox=f"0 0 {width} {height}", role="img", class_="matrix",
+    )
 
 
 def draw_alone(picture: Picture) -> str:
@@ -182,5 +258,11 @@ def draw_alone(picture: Picture) -> str:
     drawing = _Drawing(picture)
     width, height = (round(side) for side in drawing.size())
     page = element("rect", class_="m-page", width=width, height=height, rx=6)
-    return element("svg", element("title", picture.title), element("style", Markup(STYLE)), page, drawing.parts(), xmlns="http://www.w3.org/2000/svg",
-                   width=width, height=height, viewBox=f"0 0 {width} {height}", role="img") + "\n"
+    return (
+        element(
+            "svg", element("title", picture.title), element("style", Markup(STYLE)), page,
+            drawing.parts(), xmlns="http://www.w3.org/2000/svg", width=width, height=height,
+            viewBox=f"0 0 {width} {height}", role="img",
+        )
+        + "\n"
+    )

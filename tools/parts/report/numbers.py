@@ -40,4 +40,7 @@ class Scale:
 
     def at(self, number: float) -> float:
         room = self.high - self.low
-        return self.start + (self.end - self.start) * (number - self.low) / room if room else self.start
+        return (
+            self.start + (self.end - self.start) * (number - self.low) / room if room
+            else self.start
+        )

@@ -1,6 +1,8 @@
-"""A script with more calls in it that change nothing: `events` and `assign` after each change of a set, and a `read` of each running set every N occurrences.
+"""A script with more calls in it that change nothing: `events` and `assign` after each change of a
+set, and a `read` of each running set every N occurrences.
 
-A run is cut into several. So one sees what a set counted in between, and where thresholds were passed.
+A run is cut into several. So one sees what a set counted in between, and where thresholds were
+passed.
 """
 
 from __future__ import annotations
@@ -18,7 +20,8 @@ CHANGES = ("add", "remove")
 
 @dataclass
 class Probe:
-    """The lines of a script, and for each the line of the call that it stands for, or none for one that was put in."""
+    """The lines of a script, and for each the line of the call that it stands for, or none for one
+    that was put in."""
 
     lines: list[str] = field(default_factory=list)
     origins: list[int | None] = field(default_factory=list)
@@ -38,18 +41,27 @@ def consumed_by_thread(steps: Sequence[Step]) -> dict[int, int]:
 
 
 def probe_of(steps: Sequence[Step], every: int | None) -> Probe:
-    """The script of these steps with readings every n occurrences, or about READINGS of each thread. Without room for them it is the script as it is."""
+    """The script of these steps with readings every n occurrences, or about READINGS of each
+    thread. Without room for them it is the script as it is."""
     if every is not None:
         probe = _Making(dict.fromkeys(consumed_by_thread(steps), every)).made_of(steps)
         if len(probe.lines) > MOST_CALLS:
-            raise Fault(f"--every {every}: the script with the readings has {len(probe.lines):,} calls, and at most {MOST_CALLS:,} are read")
+            raise Fault(
+                f"--every {every}: the script with the readings has {len(probe.lines):,} calls, "
+                f"and at most {MOST_CALLS:,} are read"
+            )
         return probe
-    distances = {thread: max(1, -(-total // READINGS)) for thread, total in consumed_by_thread(steps).items()}
+    distances = {
+        thread: max(1, -(-total // READINGS)) for thread, total in consumed_by_thread(steps).items()
+    }
     while True:
         probe = _Making(distances).made_of(steps)
         if len(probe.lines) <= MOST_CALLS:
             return probe
-        if all(distance > total for distance, total in zip(distances.values(), consumed_by_thread(steps).values())):
+        if all(
+            distance > total
+            for distance, total in zip(distances.values(), consumed_by_thread(steps).values())
+        ):
             return _as_it_is(steps)
         distances = {thread: 2 * distance for thread, distance in distances.items()}
 
@@ -102,7 +114,8 @@ class _Making:
                 self.probe.put(f"{thread} assign {number}")
 
     def _cut(self, step: Step) -> None:
-        """Cuts a run at the multiples of the distance. The last piece asks for all that is left, so it meets the end that the run met."""
+        """Cuts a run at the multiples of the distance. The last piece asks for all that is left, so
+        it meets the end that the run met."""
         thread, asked, consumed = step.call.thread, int(step.call.arguments[0]), step.consumed
         running = self.running.get(thread, [])
         position = self.positions.get(thread, 0)

@@ -1,6 +1,7 @@
 """Regions as a tree: what papi_regions counts, by the way from the outermost region.
 
-A region script whose regions are named by their way is run, so a region that stands in two others has its counts in each.
+A region script whose regions are named by their way is run, so a region that stands in two others
+has its counts in each.
 """
 
 from __future__ import annotations
@@ -24,7 +25,10 @@ class Region:
 
     def own(self) -> tuple[int, ...]:
         """What it counted outside of its inner regions."""
-        return tuple(value - sum(region.values[place] for region in self.inner) for place, value in enumerate(self.values))
+        return tuple(
+            value - sum(region.values[place] for region in self.inner)
+            for place, value in enumerate(self.values)
+        )
 
 
 class _Growing:
@@ -48,7 +52,9 @@ class _Growing:
 
     def _inner(self, thread: int, open_regions: list[Region], name: str) -> Region:
         siblings = open_regions[-1].inner if open_regions else self.roots
-        found = next((region for region in siblings if (region.name, region.thread) == (name, thread)), None)
+        found = next(
+            (region for region in siblings if (region.name, region.thread) == (name, thread)), None
+        )
         if found is None:
             found = Region(name, thread, f"r{len(self.all)}")
             siblings.append(found)
@@ -57,7 +63,8 @@ class _Growing:
 
 
 def read_tree(tools: Tools, regions: str, events: str, streams: Sequence[str]) -> list[Region]:
-    """The outermost regions of a region script, thread by thread, with the counts of these events."""
+    """The outermost regions of a region script, thread by thread, with the counts of these
+    events."""
     answer = tools.ask("papi_regions", [f"--events={events}"], [regions, *streams], hints=True)
     if answer.status == SAYS_NO:
         said, *more = [*answer.lines, *answer.said()]
@@ -65,7 +72,9 @@ def read_tree(tools: Tools, regions: str, events: str, streams: Sequence[str]) -
     growing = _Growing()
     for call in calls_of(read_again(regions)):
         growing.take(call)
-    answer = tools.ask("papi_regions", [f"--events={events}"], [tools.written("regions", growing.lines), *streams])
+    answer = tools.ask(
+        "papi_regions", [f"--events={events}"], [tools.written("regions", growing.lines), *streams]
+    )
     by_key = {region.key: region for region in growing.all}
     for line in answer.lines:
         thread, key, instances, *values = line.split()

@@ -1,4 +1,5 @@
-"""The calls of a script, each with its reply, and the notes below them (docs/FORMATS.md, Replies)."""
+"""The calls of a script, each with its reply, and the notes below them (docs/FORMATS.md,
+Replies)."""
 
 from __future__ import annotations
 
@@ -67,7 +68,10 @@ def read_replies(calls: Sequence[Call], lines: Iterable[str]) -> tuple[list[Step
             notes.append(Note(int(words[1]), int(words[2]), int(words[3]), words[4]))
             continue
         call = calls[len(steps)] if len(steps) < len(calls) else None
-        if call is None or len(words) < 4 or words[:3] != [str(call.line), str(call.thread), call.name]:
+        if (
+            call is None or len(words) < 4
+            or words[:3] != [str(call.line), str(call.thread), call.name]
+        ):
             raise Fault(f"papi_run printed a line that is no reply: {text}")
         steps.append(Step(call, words[3], tuple(words[4:])))
     if len(steps) != len(calls):

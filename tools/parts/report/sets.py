@@ -1,4 +1,5 @@
-"""The pictures of sets: the assignment of one that fits, the groups of one whose events take turns, and a conflict."""
+"""The pictures of sets: the assignment of one that fits, the groups of one whose events take turns,
+and a conflict."""
 
 from __future__ import annotations
 
@@ -40,7 +41,8 @@ def assignment_of(tools: Tools, events: Sequence[str]) -> dict[str, str]:
 
 
 def groups_of(tools: Tools, events: Sequence[str]) -> list[Group]:
-    """The groups in which the native events of these events take turns: each begins where the one before it ends, and is as long as it fits."""
+    """The groups in which the native events of these events take turns: each begins where the one
+    before it ends, and is as long as it fits."""
     natives = list(natives_of(tools, events))
     script = []
     for first in range(len(natives)):
@@ -52,9 +54,14 @@ def groups_of(tools: Tools, events: Sequence[str]) -> list[Group]:
     first = 0
     while first < len(natives):
         own = [step for step in steps if step.call.name != "create" and step.set == first]
-        fitting = next((place for place, step in enumerate(own[::2]) if not step.is_done), len(natives) - first)
+        fitting = next(
+            (place for place, step in enumerate(own[::2]) if not step.is_done), len(natives) - first
+        )
         size = max(fitting, 1)
-        counters = dict(result.rpartition("=")[::2] for result in own[2 * size - 1].results) if fitting else {}
+        counters = (
+            dict(result.rpartition("=")[::2] for result in own[2 * size - 1].results) if fitting
+            else {}
+        )
         groups.append(Group(tuple(natives[first : first + size]), counters))
         first += size
     return groups
@@ -67,31 +74,48 @@ class Pictures:
 
     def of_setup(self, setup: Setup, title: str = "") -> Picture | None:
         """The assignment of a set, or none if it has no events."""
-        return self._of(natives_of(self.tools, setup.events), setup.counters or assignment_of(self.tools, setup.events), title)
+        return self._of(
+            natives_of(self.tools, setup.events),
+            setup.counters or assignment_of(self.tools, setup.events), title,
+        )
 
     def of_group(self, setup: Setup, group: Group, title: str = "") -> Picture | None:
-        needed = {native: events for native, events in natives_of(self.tools, setup.events).items() if native in group.natives}
+        needed = {
+            native: events for native, events in natives_of(self.tools, setup.events).items()
+            if native in group.natives
+        }
         return self._of(needed, group.counters, title)
 
     def of_conflict(self, conflict: Conflict, title: str = "") -> Picture | None:
-        """The events of a set with the one that was refused, those to blame marked, and the counters that they are allowed."""
+        """The events of a set with the one that was refused, those to blame marked, and the
+        counters that they are allowed."""
         held = natives_of(self.tools, conflict.held)
         needed = natives_of(self.tools, [*conflict.held, conflict.event])
         held_counters = conflict.held_counters or assignment_of(self.tools, conflict.held)
         rows = [
-            self._row(native, events, held_counters, native in conflict.blamed, "" if native in held else "to be added")
+            self._row(
+                native, events, held_counters, native in conflict.blamed,
+                "" if native in held else "to be added",
+            )
             for native, events in needed.items()
         ]
         return Picture(self._columns(needed), rows, conflict.counters, title) if rows else None
 
-    def _of(self, needed: dict[str, list[str]], counters: dict[str, str], title: str) -> Picture | None:
+    def _of(
+        self, needed: dict[str, list[str]], counters: dict[str, str], title: str
+    ) -> Picture | None:
         rows = [self._row(native, events, counters) for native, events in needed.items()]
         return Picture(self._columns(needed), rows, title=title) if rows else None
 
-    def _row(self, native: str, events: Sequence[str], counters: dict[str, str], is_blamed: bool = False, remark: str = "") -> Row:
+    def _row(
+        self, native: str, events: Sequence[str], counters: dict[str, str], is_blamed: bool = False,
+        remark: str = "",
+    ) -> Row:
         others = [event for event in events if self.tools.is_preset(event)]
         told = [remark] * bool(remark) + [f"for {', '.join(others)}"] * bool(others)
-        return Row(native, self.tools.counters_of(native), counters.get(native), "; ".join(told), is_blamed)
+        return Row(
+            native, self.tools.counters_of(native), counters.get(native), "; ".join(told), is_blamed
+        )
 
     def _columns(self, natives: dict[str, list[str]]) -> list[Counter]:
         return self.counters.get(pmu_of(next(iter(natives), "")), [])

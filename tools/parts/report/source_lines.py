@@ -1,4 +1,5 @@
-"""Lines of source for program counters, by `addr2line` of the package binutils. A program may name any file as its source: only what can be one is read."""
+"""Lines of source for program counters, by `addr2line` of the package binutils. A program may name
+any file as its source: only what can be one is read."""
 
 from __future__ import annotations
 
@@ -14,7 +15,9 @@ from parts.report.markup import LONGEST
 
 MOST_BYTES = 1 << 24  # of a file of source
 PATIENCE = 60  # seconds, for addr2line, which opens files that the program names
-SOURCE = re.compile(r".*\.(?:c|cc|cpp|cxx|c\+\+|C|h|hh|hpp|hxx|h\+\+|inl|ipp|tcc|f|for|f77|f90|f95|f03|f08|F|F90|F95|F03|F08|rs|rt|go|zig|d|nim|jl|ml|hs|adb|ads|pas|m|mm|cu|s|S|asm|py|pyx|java|kt|swift)", re.DOTALL)
+SOURCE = re.compile(r".*\.(?:c|cc|cpp|cxx|c\+\+|C|h|hh|hpp|hxx|h\+\+|inl|ipp|tcc|f|for|f77|f90|f95"
+                    r"|f03|f08|F|F90|F95|F03|F08|rs|rt|go|zig|d|nim|jl|ml|hs|adb|ads|pas|m|mm|cu|s"
+                    r"|S|asm|py|pyx|java|kt|swift)", re.DOTALL)
 PLACE = re.compile(r"(.*):([0-9]+)(?: \(discriminator [0-9]+\))?")
 
 
@@ -35,7 +38,10 @@ def places_of(program: str, base: int, addresses: Sequence[int]) -> dict[int, tu
     """Function, file and line of these addresses. One without a line of source is left out."""
     asked = "".join(f"{address - base:#x}\n" for address in addresses)
     try:
-        done = subprocess.run(["addr2line", "-f", "-C", "-e", program], input=asked, capture_output=True, text=True, errors="replace", timeout=PATIENCE)
+        done = subprocess.run(
+            ["addr2line", "-f", "-C", "-e", program], input=asked, capture_output=True, text=True,
+            errors="replace", timeout=PATIENCE,
+        )
     except subprocess.TimeoutExpired:
         return {}
     told = done.stdout.removesuffix("\n").split("\n")
@@ -49,7 +55,9 @@ def places_of(program: str, base: int, addresses: Sequence[int]) -> dict[int, tu
     return places
 
 
-def source_lines(places: dict[int, tuple[str, str, int]], buckets: Sequence[Bucket]) -> list[SourceLine]:
+def source_lines(
+    places: dict[int, tuple[str, str, int]], buckets: Sequence[Bucket]
+) -> list[SourceLine]:
     """The lines of source of these buckets, the hottest first."""
     lines: dict[tuple[str, int], SourceLine] = {}
     texts: dict[str, list[str]] = {}
@@ -68,6 +76,9 @@ def source_lines(places: dict[int, tuple[str, str, int]], buckets: Sequence[Buck
 def lines_of(file: str) -> list[str]:
     """The lines of a regular file that is named as source is, or none."""
     try:
-        return content(file, MOST_BYTES).decode("utf-8", "replace").split("\n") if SOURCE.fullmatch(file) else []
+        return (
+            content(file, MOST_BYTES).decode("utf-8", "replace").split("\n")
+            if SOURCE.fullmatch(file) else []
+        )
     except (OSError, Unread):
         return []

@@ -1,4 +1,5 @@
-"""What happened to each set, as the replies tell it: its events and their counters, when it ran, what it counted, and where thresholds were passed."""
+"""What happened to each set, as the replies tell it: its events and their counters, when it ran,
+what it counted, and where thresholds were passed."""
 
 from __future__ import annotations
 
@@ -20,7 +21,8 @@ class Reading:
 
 @dataclass(frozen=True)
 class Passing:
-    """A threshold that was passed by one of the occurrences after the first position, up to the last one."""
+    """A threshold that was passed by one of the occurrences after the first position, up to the
+    last one."""
 
     after: int
     upto: int
@@ -82,8 +84,10 @@ class Story:
     setups: dict[tuple[int, int], Setup] = field(default_factory=dict)
     spans: list[Span] = field(default_factory=list)
     conflicts: list[Conflict] = field(default_factory=list)
-    positions: dict[int, int] = field(default_factory=dict)  # how many occurrences each thread consumed
-    names: dict[int, tuple[str, ...]] = field(default_factory=dict)  # by line: the events whose values a reply has
+    # how many occurrences each thread consumed
+    positions: dict[int, int] = field(default_factory=dict)
+    # by line: the events whose values a reply has
+    names: dict[int, tuple[str, ...]] = field(default_factory=dict)
 
     def sets(self) -> list[tuple[int, int]]:
         return sorted(self.setups)
@@ -109,7 +113,9 @@ class _Telling:
                 self._do(key, step, origin)
             elif step.code == CONFLICT:
                 setup = self.story.setups[key]
-                self.story.conflicts.append(Conflict(step, setup.events, dict(setup.counters), *step.blame()))
+                self.story.conflicts.append(
+                    Conflict(step, setup.events, dict(setup.counters), *step.blame())
+                )
 
     def _run(self, thread: int, step: Step) -> None:
         before = self.story.positions[thread]
@@ -135,7 +141,10 @@ class _Telling:
         elif name == "events":
             setup.events = results
         elif name == "assign":
-            setup.counters = {native: counter for native, _, counter in (result.rpartition("=") for result in results)}
+            setup.counters = {
+                native: counter
+                for native, _, counter in (result.rpartition("=") for result in results)
+            }
         elif name in ("add", "remove"):
             self._change(setup, step)
         elif name == "multiplex":
@@ -150,7 +159,10 @@ class _Telling:
         if self.name_of is None:
             return
         event = self.name_of(step.call.arguments[1])
-        setup.events = (*setup.events, event) if step.call.name == "add" else tuple(held for held in setup.events if held != event)
+        setup.events = (
+            (*setup.events, event) if step.call.name == "add"
+            else tuple(held for held in setup.events if held != event)
+        )
         setup.counters = {}
 
     def _count(self, key: tuple[int, int], step: Step, origin: int | None, setup: Setup) -> None:
@@ -177,9 +189,11 @@ class _Telling:
 
 
 def tell_story(
-    steps: Sequence[Step], origins: Sequence[int | None], notes: Sequence[Note], name_of: Callable[[str], str] | None = None
+    steps: Sequence[Step], origins: Sequence[int | None], notes: Sequence[Note],
+    name_of: Callable[[str], str] | None = None
 ) -> Story:
-    """The story of these steps. `origins` has for each the line of the script that it stands for. If the steps do not ask for the events of sets, `name_of` gives their names."""
+    """The story of these steps. `origins` has for each the line of the script that it stands for.
+    If the steps do not ask for the events of sets, `name_of` gives their names."""
     telling = _Telling(notes, name_of)
     for step, origin in zip(steps, origins):
         telling.take(step, origin)

@@ -1,4 +1,5 @@
-"""The time of a thread along the axis of its line: cycles if its stream has them, the stamps of its stream, or else occurrences."""
+"""The time of a thread along the axis of its line: cycles if its stream has them, the stamps of its
+stream, or else occurrences."""
 
 from __future__ import annotations
 
@@ -35,27 +36,44 @@ class _Read:
         if place + 1 >= len(self.positions):
             return self.cycles[-1]
         low, high = self.positions[place], self.positions[place + 1]
-        return self.cycles[place] + (self.cycles[place + 1] - self.cycles[place]) * (position - low) // (high - low)
+        return self.cycles[place] + (self.cycles[place + 1] - self.cycles[place]) * (
+            position - low
+        ) // (high - low)
 
 
-def times_of(tools: Tools, consumed: Mapping[int, int], clocks: Callable[[int], Clock], streams: Sequence[str]) -> dict[int, Time]:
+def times_of(
+    tools: Tools, consumed: Mapping[int, int], clocks: Callable[[int], Clock],
+    streams: Sequence[str],
+) -> dict[int, Time]:
     """The time of each thread. All have the same unit."""
     moving = [thread for thread, total in consumed.items() if total]
     if moving and all(clocks(thread).stamps is not None for thread in moving):
         return {thread: Time("ticks", clocks(thread).at) for thread in consumed}
     read = _cycles_of(tools, {thread: consumed[thread] for thread in moving}, streams)
-    return {thread: Time("cycles", read[thread].at) if thread in read else Time("cycles", lambda position: 0) for thread in consumed} if read else \
-        {thread: Time() for thread in consumed}
+    return (
+        {
+            thread: Time("cycles", read[thread].at) if thread in read
+            else Time("cycles", lambda position: 0) for thread in consumed
+        }
+        if read
+        else {thread: Time() for thread in consumed}
+    )
 
 
-def _cycles_of(tools: Tools, consumed: Mapping[int, int], streams: Sequence[str]) -> dict[int, _Read]:
-    """The cycles of each thread, or of none if one has fewer of them than lines: then they are no time."""
+def _cycles_of(
+    tools: Tools, consumed: Mapping[int, int], streams: Sequence[str]
+) -> dict[int, _Read]:
+    """The cycles of each thread, or of none if one has fewer of them than lines: then they are no
+    time."""
     event = next((name for name in CYCLES if tools.natives_of(name)), None)
     if event is None or not consumed:
         return {}
     script = []
     for thread, total in consumed.items():
-        script += [f"{thread} create", f"{thread} add 0 {event}", f"{thread} domain 0 {BOTH_MODES}", f"{thread} start 0"]
+        script += [
+            f"{thread} create", f"{thread} add 0 {event}", f"{thread} domain 0 {BOTH_MODES}",
+            f"{thread} start 0",
+        ]
         for low, high in zip(_cuts(total), _cuts(total)[1:]):
             script += [f"{thread} run {high - low}", f"{thread} read 0"]
     steps, _ = read_replies(calls_of(script), tools.run(script, streams).lines)
@@ -63,7 +81,13 @@ def _cycles_of(tools: Tools, consumed: Mapping[int, int], streams: Sequence[str]
         return {}
     found = {}
     for thread, total in consumed.items():
-        cycles = [0, *(int(step.results[0]) for step in steps if step.call.thread == thread and step.call.name == "read")]
+        cycles = [
+            0,
+            *(
+                int(step.results[0]) for step in steps
+                if step.call.thread == thread and step.call.name == "read"
+            ),
+        ]
         if cycles[-1] < total:
             return {}
         found[thread] = _Read(_cuts(total), cycles)

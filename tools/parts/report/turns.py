@@ -1,4 +1,5 @@
-"""Whose turn it is in a multiplexed set: groups take turns of a slice of ticks from where the count begins (docs/FORMATS.md, What the calls do)."""
+"""Whose turn it is in a multiplexed set: groups take turns of a slice of ticks from where the count
+begins (docs/FORMATS.md, What the calls do)."""
 
 from __future__ import annotations
 
@@ -24,7 +25,8 @@ class Turn:
 
 
 class Clock:
-    """The ticks of a thread: one above the stamp of the last occurrence. Without stamps the position is the time."""
+    """The ticks of a thread: one above the stamp of the last occurrence. Without stamps the
+    position is the time."""
 
     def __init__(self, stamps: Sequence[int] | None = None):
         self.stamps = stamps
@@ -69,5 +71,8 @@ def turns_of(span: Span, groups: int, clock: Clock, most: int) -> list[Turn] | N
         if len(turns) + count > most:
             return None
         edges = [clock.position(first + number * slice_) for number in range(count)] + [end]
-        turns += [Turn(number % groups, edges[number], edges[number + 1]) for number in range(count) if edges[number] < edges[number + 1]]
+        turns += [
+            Turn(number % groups, edges[number], edges[number + 1]) for number in range(count)
+            if edges[number] < edges[number + 1]
+        ]
     return turns
