@@ -1,4 +1,5 @@
-"""The tests of what stands around the crates. After it the modules of bin/hints, checks/ and python/tests are found, which they are about."""
+"""The tests of what stands around the crates. After it the modules of bin/hints, checks/ and
+python/tests are found, which they are about."""
 
 import sys
 from pathlib import Path

@@ -30,9 +30,15 @@ class Counted(InFolder):
         """A program over the shared library."""
         source, program = self.write("program.c", HEAD + text), str(self.folder / "program")
         words = words or (f"-L{self.library}", "-lpapi")
-        subprocess.run(["cc", "-O1", f"-I{ROOT / 'include'}", "-o", program, source, *words, "-lpthread"], check=True)
+        subprocess.run(
+            ["cc", "-O1", f"-I{ROOT / 'include'}", "-o", program, source, *words, "-lpthread"],
+            check=True,
+        )
         return program
 
     def count(self, *words: str, text: str = "") -> subprocess.CompletedProcess[str]:
         """The last --library is the one that is taken."""
-        return subprocess.run([str(TOOLS / "count"), "--library", self.library, *words], input=text, capture_output=True, text=True)
+        return subprocess.run(
+            [str(TOOLS / "count"), "--library", self.library, *words], input=text,
+            capture_output=True, text=True,
+        )

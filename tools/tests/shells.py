@@ -1,4 +1,5 @@
-"""Shells as a person uses them, on a terminal of their own: what is typed, and what stands on the line after it."""
+"""Shells as a person uses them, on a terminal of their own: what is typed, and what stands on the
+line after it."""
 
 from __future__ import annotations
 
@@ -46,18 +47,33 @@ touch ready
 class Shell:
     """An interactive shell in a folder, with the completion of the checkout or another one."""
 
-    def __init__(self, name: str, folder: Path, environment: Mapping[str, str], completion: Path | None = None):
+    def __init__(
+        self, name: str, folder: Path, environment: Mapping[str, str],
+        completion: Path | None = None,
+    ):
         self.folder = folder
-        rc = {"bash": BASH_RC, "zsh": ZSH_RC, "fish": FISH_RC}[name].format(completion=shlex.quote(str(completion or ROOT / "completions" / f"kistalub.{name}")))
+        rc = {"bash": BASH_RC, "zsh": ZSH_RC, "fish": FISH_RC}[name].format(
+            completion=shlex.quote(str(completion or ROOT / "completions" / f"kistalub.{name}"))
+        )
         own = folder / "own"
         own.mkdir(exist_ok=True)
         start = own / {"bash": "bashrc", "zsh": ".zshrc", "fish": "start.fish"}[name]
         start.write_text(rc, encoding="utf-8")
-        words = {"bash": ["bash", "--noprofile", "--rcfile", str(start), "-i"], "zsh": ["zsh", "-d", "-i"], "fish": ["fish", "-i", "-N", "-C", f"source {start}"]}[name]
-        variables = {**environment, "TERM": "xterm", "ZDOTDIR": str(own), "XDG_CONFIG_HOME": str(own), "XDG_DATA_HOME": str(own), "COLUMNS": "200", "LINES": "50"}
+        words = {
+            "bash": ["bash", "--noprofile", "--rcfile", str(start), "-i"],
+            "zsh": ["zsh", "-d", "-i"],
+            "fish": ["fish", "-i", "-N", "-C", f"source {start}"],
+        }[name]
+        variables = {
+            **environment, "TERM": "xterm", "ZDOTDIR": str(own), "XDG_CONFIG_HOME": str(own),
+            "XDG_DATA_HOME": str(own), "COLUMNS": "200", "LINES": "50",
+        }
         self.terminal, other = pty.openpty()
         self.shown = b""
-        self.child = subprocess.Popen(words, stdin=other, stdout=other, stderr=other, cwd=folder, env=variables, preexec_fn=lambda: _own_terminal())
+        self.child = subprocess.Popen(
+            words, stdin=other, stdout=other, stderr=other, cwd=folder, env=variables,
+            preexec_fn=lambda: _own_terminal(),
+        )
         os.close(other)
         self._reader = threading.Thread(target=self._read, daemon=True)
         self._reader.start()

@@ -25,9 +25,13 @@ PROGRAM = ROOT / "crates/papi/out/papi"
 LIBRARY = ROOT / "crates/papi_c/out/libpapi_c.a"
 
 
-def run_tool(name: str, *words: str, text: str = "", folder: Path | None = None) -> subprocess.CompletedProcess[str]:
+def run_tool(
+    name: str, *words: str, text: str = "", folder: Path | None = None
+) -> subprocess.CompletedProcess[str]:
     """A tool of the folder `tools` with these words and this standard input."""
-    return subprocess.run([str(TOOLS / name), *words], input=text, capture_output=True, text=True, cwd=folder)
+    return subprocess.run(
+        [str(TOOLS / name), *words], input=text, capture_output=True, text=True, cwd=folder
+    )
 
 
 def run_program(*words: str) -> subprocess.CompletedProcess[str]:
@@ -46,8 +50,12 @@ def copied(*names: str) -> Iterator[Path]:
         yield Path(folder)
 
 
-def before_and_after(line: str, table: str, made: Iterable[str], made_texts: Callable[[Path], dict[str, str]], more: Mapping[str, str] = {}) -> tuple[dict[str, str], dict[str, str]]:
-    """What the files are made to be by the table, and by the table with one more line, in a folder that has more files."""
+def before_and_after(
+    line: str, table: str, made: Iterable[str], made_texts: Callable[[Path], dict[str, str]],
+    more: Mapping[str, str] = {},
+) -> tuple[dict[str, str], dict[str, str]]:
+    """What the files are made to be by the table, and by the table with one more line, in a folder
+    that has more files."""
     with copied(table, *made) as root:
         for name, text in more.items():
             (root / name).write_text(text, encoding="utf-8")
@@ -58,7 +66,8 @@ def before_and_after(line: str, table: str, made: Iterable[str], made_texts: Cal
 
 
 def some(items: Iterable[Item]) -> list[Item]:
-    """The items. It is an error if there are none, since a test of each of them could not fail then."""
+    """The items. It is an error if there are none, since a test of each of them could not fail
+    then."""
     found = list(items)
     if not found:
         raise AssertionError("there is nothing to look at")
@@ -80,7 +89,10 @@ def has_library(name: str) -> bool:
 
 needs_libpfm4 = unittest.skipUnless(has_library("libpfm.so.4"), "libpfm4 is not installed")
 needs_program = unittest.skipUnless(PROGRAM.exists(), "crates/papi/out/papi is not built")
-needs_library = unittest.skipUnless(LIBRARY.exists() and (shutil.which("rt") or os.environ.get("KISTALUB_HEAP")), "crates/papi_c/out/libpapi_c.a is not built")
+needs_library = unittest.skipUnless(
+    LIBRARY.exists() and (shutil.which("rt") or os.environ.get("KISTALUB_HEAP")),
+    "crates/papi_c/out/libpapi_c.a is not built",
+)
 
 
 @lru_cache(maxsize=None)
@@ -89,7 +101,10 @@ def installed() -> Path:
     folder = tempfile.TemporaryDirectory()
     atexit.register(folder.cleanup)
     prefix = Path(folder.name) / "a prefix"
-    subprocess.run([str(ROOT / "bin/install"), "--program-suffix", "-x", str(prefix)], check=True, capture_output=True)
+    subprocess.run(
+        [str(ROOT / "bin/install"), "--program-suffix", "-x", str(prefix)], check=True,
+        capture_output=True,
+    )
     return prefix
 
 

@@ -37,18 +37,23 @@ ANY_END = (
 )
 
 REPORT = (
-    "import pathlib, sys\nfrom parts.command import end_with\nfrom parts.report import asking\nasking.ROOT = pathlib.Path(sys.argv[1])\n"
+    "import pathlib, sys\nfrom parts.command import end_with\nfrom parts.report import asking\n"
+    "asking.ROOT = pathlib.Path(sys.argv[1])\n"
     "def work():\n with asking.Tools(asking.Tables('unit')):\n  pass\nend_with('report', work)\n"
 )
 RECORD = (
-    "import sys\nfrom parts import recording, valgrind\nfrom parts.command import end_with\nfrom parts.machine import MACHINES\n"
-    "recording._words = lambda *any: []\nvalgrind.environment = lambda *any: None\nvalgrind.tool = lambda: None\n"
+    "import sys\nfrom parts import recording, valgrind\nfrom parts.command import end_with\n"
+    "from parts.machine import MACHINES\n"
+    "recording._words = lambda *any: []\nvalgrind.environment = lambda *any: None\n"
+    "valgrind.tool = lambda: None\n"
     "valgrind.command = lambda words, path, arguments: [path]\n"
-    "def work():\n recording.record(recording.Wanted(sys.argv[1], [], MACHINES['skl']), '/dev/null', '')\nend_with('record', work)\n"
+    "def work():\n recording.record(recording.Wanted(sys.argv[1], [], MACHINES['skl']), "
+    "'/dev/null', '')\nend_with('record', work)\n"
 )
 PROGRAM = (
     "import pathlib, sys\nfrom parts import papi_program\nfrom parts.command import end_with\n"
-    "papi_program.FOLDER = pathlib.Path(sys.argv[1])\nend_with('count', papi_program.prepare_program)\n"
+    "papi_program.FOLDER = pathlib.Path(sys.argv[1])\n"
+    "end_with('count', papi_program.prepare_program)\n"
 )
 
 
@@ -81,7 +86,9 @@ class Ends(InFolder):
 
     def slow(self, name: str, *lines: str) -> str:
         """A program that tells its number, and is slow."""
-        text = "\n".join(("#!/bin/sh", *lines, f'echo $$ >"{self.process}"', f"exec sleep {SLOW}", ""))
+        text = "\n".join(
+            ("#!/bin/sh", *lines, f'echo $$ >"{self.process}"', f"exec sleep {SLOW}", "")
+        )
         path = Path(self.write(name, text))
         path.chmod(0o755)
         return str(path)
@@ -99,7 +106,12 @@ class Ends(InFolder):
             stderr=subprocess.DEVNULL,
             preexec_fn=by_default,
         )
-        self.assertTrue(within(PATIENCE, lambda: self.process.exists() and bool(self.process.read_text().strip())), words)
+        self.assertTrue(
+            within(
+                PATIENCE, lambda: self.process.exists() and bool(self.process.read_text().strip())
+            ),
+            words,
+        )
         started = int(self.process.read_text())
         self.addCleanup(end, started)
         child.send_signal(number)
@@ -134,9 +146,14 @@ class Scripts(Ends):
         self.assertEqual(self.check_end(signal.SIGKILL, self.words), -signal.SIGKILL)
 
     def limited(self, which: int, most: int) -> tuple[int, bytes, bytes]:
-        environment = {**os.environ, "TMPDIR": str(self.temporary), "XDG_CACHE_HOME": str(self.folder / "cache")}
+        environment = {
+            **os.environ,
+            "TMPDIR": str(self.temporary),
+            "XDG_CACHE_HOME": str(self.folder / "cache"),
+        }
         done = subprocess.run(
-            self.words, cwd=self.folder, env=environment, stdin=subprocess.DEVNULL, capture_output=True, timeout=PATIENCE,
+            self.words, cwd=self.folder, env=environment, stdin=subprocess.DEVNULL,
+            capture_output=True, timeout=PATIENCE,
             preexec_fn=lambda: resource.setrlimit(which, (most, most)),
         )
         self.assertTrue(within(PATIENCE, lambda: not os.listdir(self.temporary)), (which, most))
@@ -144,9 +161,17 @@ class Scripts(Ends):
 
     def test_limits_of_files(self) -> None:
         """Where no file may have a byte, the tool runs as without hints."""
-        path = Path(self.write(PLACE, "#!/bin/sh\necho '1 0 add PAPI_ENOEVST'\necho 'papi: bad words' >&2\nexit 2\n"))
+        path = Path(
+            self.write(
+                PLACE,
+                "#!/bin/sh\necho '1 0 add PAPI_ENOEVST'\necho 'papi: bad words' >&2\nexit 2\n",
+            )
+        )
         path.chmod(0o755)
-        self.assertEqual(self.limited(resource.RLIMIT_FSIZE, 0), (2, b"1 0 add PAPI_ENOEVST\n", b"papi: bad words\n"))
+        self.assertEqual(
+            self.limited(resource.RLIMIT_FSIZE, 0),
+            (2, b"1 0 add PAPI_ENOEVST\n", b"papi: bad words\n"),
+        )
         for most in (1, 2, 20, 512):
             self.assertIn(self.limited(resource.RLIMIT_FSIZE, most)[0], (2, 5), most)
 
@@ -169,24 +194,35 @@ class Builds(Ends):
             self.check_build(number, words, CC=slow, KISTALUB_HEAP=heap)
 
     def check_build(self, number: int, words: Sequence[str], **variables: str) -> None:
-        """What a script waits for goes on for a moment if it is killed, and what it has made is gone then."""
+        """What a script waits for goes on for a moment if it is killed, and what it has made is
+        gone then."""
         self.process.unlink(missing_ok=True)
         child = subprocess.Popen(
-            words, cwd=self.folder, env={**os.environ, "TMPDIR": str(self.temporary), **variables}, stdin=subprocess.DEVNULL,
+            words, cwd=self.folder, env={**os.environ, "TMPDIR": str(self.temporary), **variables},
+            stdin=subprocess.DEVNULL,
             stdout=subprocess.DEVNULL, stderr=subprocess.DEVNULL, preexec_fn=by_default,
         )
-        self.assertTrue(within(PATIENCE, lambda: self.process.exists() and bool(self.process.read_text().strip())), words)
+        self.assertTrue(
+            within(
+                PATIENCE, lambda: self.process.exists() and bool(self.process.read_text().strip())
+            ),
+            words,
+        )
         self.assertNotEqual(os.listdir(self.temporary), [])
         child.send_signal(number)
         os.kill(int(self.process.read_text()), signal.SIGTERM)
-        self.assertEqual(child.wait(PATIENCE), -number if number == signal.SIGKILL else 128 + number)
+        self.assertEqual(
+            child.wait(PATIENCE), -number if number == signal.SIGKILL else 128 + number
+        )
         self.assertTrue(within(PATIENCE, lambda: not os.listdir(self.temporary)), (words, number))
 
     @needs_command("valgrind", "valgrind")
     def test_the_tool_of_valgrind(self) -> None:
         slow = self.slow("slow")
         for number in (signal.SIGUSR1, signal.SIGKILL):
-            self.check_build(number, [str(TOOLS / "valgrind/build"), str(self.temporary / "tool")], CC=slow)
+            self.check_build(
+                number, [str(TOOLS / "valgrind/build"), str(self.temporary / "tool")], CC=slow
+            )
 
 
 class Tools(Ends):
@@ -198,22 +234,32 @@ class Tools(Ends):
 
     @needs_command("cc", "a C compiler")
     def test_a_compiler(self) -> None:
-        slow = self.slow("slow", f'case $* in *probe.c*) ;; *) exec {shutil.which("cc")} "$@" ;; esac')
+        slow = self.slow(
+            "slow", f'case $* in *probe.c*) ;; *) exec {shutil.which("cc")} "$@" ;; esac'
+        )
         self.check_tool([str(TOOLS / "make_fortran"), "--check"], CC=slow)
 
     def test_a_tool_of_a_report(self) -> None:
         (self.folder / "bin").mkdir()
         self.slow("bin/papi")
-        self.check_tool([sys.executable, "-B", "-c", REPORT, str(self.folder)], PYTHONPATH=str(TOOLS))
+        self.check_tool(
+            [sys.executable, "-B", "-c", REPORT, str(self.folder)], PYTHONPATH=str(TOOLS)
+        )
 
     def test_a_recorded_program(self) -> None:
         """Here a slow program stands in the place of valgrind."""
-        self.check_tool([sys.executable, "-B", "-c", RECORD, self.slow("slow")], PYTHONPATH=str(TOOLS))
+        self.check_tool(
+            [sys.executable, "-B", "-c", RECORD, self.slow("slow")], PYTHONPATH=str(TOOLS)
+        )
 
     def test_a_signal_to_all_of_a_job(self) -> None:
         """It ends what a tool waits for first, and comes to the tool a moment later."""
         closed = " ".join(f"{number}>&-" for number in range(10))
-        path = Path(self.write("ended", f"#!/bin/sh\n(sleep 0.2; kill -USR1 $PPID) {closed} &\nkill -USR1 $$\n"))
+        path = Path(
+            self.write(
+                "ended", f"#!/bin/sh\n(sleep 0.2; kill -USR1 $PPID) {closed} &\nkill -USR1 $$\n"
+            )
+        )
         path.chmod(0o755)
         (self.folder / "bin").mkdir()
         shutil.copy(path, self.folder / "bin/papi")
@@ -223,19 +269,33 @@ class Tools(Ends):
             [sys.executable, "-B", "-c", RECORD, str(path)],
             [sys.executable, "-B", "-c", PROGRAM, str(self.folder / "bin")],
         ):
-            environment = {**os.environ, "CC": str(path), "PYTHONPATH": str(TOOLS), "TMPDIR": str(self.temporary)}
-            done = subprocess.run(words, env=environment, stdin=subprocess.DEVNULL, capture_output=True, timeout=PATIENCE)
+            environment = {
+                **os.environ,
+                "CC": str(path),
+                "PYTHONPATH": str(TOOLS),
+                "TMPDIR": str(self.temporary),
+            }
+            done = subprocess.run(
+                words, env=environment, stdin=subprocess.DEVNULL, capture_output=True,
+                timeout=PATIENCE,
+            )
             with self.subTest(words=words):
-                self.assertEqual((done.returncode, done.stdout, done.stderr), (BY_SIGNAL + signal.SIGUSR1, b"", b""))
+                self.assertEqual(
+                    (done.returncode, done.stdout, done.stderr),
+                    (BY_SIGNAL + signal.SIGUSR1, b"", b""),
+                )
 
     def test_an_end_that_comes_in_a_finalizer(self) -> None:
         code = (
             "import signal, time\nfrom parts.command import end_with\n"
             "class Last:\n def __del__(self):\n  signal.raise_signal(signal.SIGUSR2)\n"
-            f"def work():\n last = Last()\n del last\n time.sleep({PATIENCE})\nend_with('tool', work)\n"
+            f"def work():\n last = Last()\n del last\n time.sleep({PATIENCE})\n"
+            "end_with('tool', work)\n"
         )
         environment = {**os.environ, "PYTHONPATH": str(TOOLS)}
-        done = subprocess.run([sys.executable, "-B", "-c", code], env=environment, capture_output=True, timeout=SLOW)
+        done = subprocess.run(
+            [sys.executable, "-B", "-c", code], env=environment, capture_output=True, timeout=SLOW
+        )
         self.assertEqual((done.returncode, done.stderr), (BY_SIGNAL + signal.SIGUSR2, b""))
 
 
@@ -246,7 +306,8 @@ class Lines(Ends):
     LAST = 99  # the status of a process that has no such line
 
     def in_child(self, number: int) -> NoReturn:
-        """Sends itself a signal before a line with this number. The command goes on until it is ended."""
+        """Sends itself a signal before a line with this number. The command goes on until it is
+        ended."""
         seen = 0
 
         def trace(frame: FrameType, event: str, argument: Any) -> Any:

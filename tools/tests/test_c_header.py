@@ -37,33 +37,53 @@ class Headers(InFolder):
 
     def test_functions(self) -> None:
         self.assertEqual(self.header.functions, {
-            "small_name": "const char * (int number)", "small_call": "unsigned long (void (*call)(int), small_t *values)",
+            "small_name": "const char * (int number)",
+            "small_call": "unsigned long (void (*call)(int), small_t *values)",
         })
 
     def test_types(self) -> None:
         small = self.header.composites["small_t"]
         self.assertEqual(small.tag, "struct _small")
         self.assertEqual(small.members, (
-            Member("names", "char *[3]", None), Member("first", "int", None), Member("second", "int *", None),
+            Member("names", "char *[3]", None), Member("first", "int", None),
+            Member("second", "int *", None),
             Member("low", "unsigned", 3), Member("high", "unsigned", 5),
         ))
         self.assertEqual(self.header.composites["small_u"].tag, "")
-        self.assertEqual(self.header.typedefs, {"small_e": "unsigned int", "small_f": "void (*)(int one, void *two)", "small_n": "unsigned long"})
+        self.assertEqual(
+            self.header.typedefs,
+            {
+                "small_e": "unsigned int",
+                "small_f": "void (*)(int one, void *two)",
+                "small_n": "unsigned long",
+            },
+        )
         self.assertEqual(self.header.enumerators, ["SMALL_A", "SMALL_B"])
 
     def test_files(self) -> None:
         self.assertEqual(self.header.path, str(self.folder / "small.h"))
         self.assertIn("stddef.h", [name.rpartition("/")[2] for name in self.header.included])
-        self.assertEqual(self.header.names() & {"small_call", "small_t", "small_n", "SMALL_B", "SMALL_SUM"}, {"small_call", "small_t", "small_n", "SMALL_B", "SMALL_SUM"})
+        self.assertEqual(
+            self.header.names() & {"small_call", "small_t", "small_n", "SMALL_B", "SMALL_SUM"},
+            {"small_call", "small_t", "small_n", "SMALL_B", "SMALL_SUM"},
+        )
 
     def test_macros(self) -> None:
         self.assertEqual(self.header.macros["SMALL_SUM"].parameters, ("a", "b"))
         self.assertNotIn("SMALL_GONE", self.header.macros)
-        self.assertEqual(self.header.possible_constants(), ["SMALL_FIVE", "SMALL_TYPE", "SMALL_A", "SMALL_B"])
+        self.assertEqual(
+            self.header.possible_constants(), ["SMALL_FIVE", "SMALL_TYPE", "SMALL_A", "SMALL_B"]
+        )
 
     def test_an_enumeration_with_a_number_below_0(self) -> None:
-        self.write("small.h", "typedef enum { LOW = -1, HIGH } small_e;\ntypedef enum { NONE = 0, SOME } small_f;\n")
-        self.assertEqual(read_header("small.h", self.folder, "small").typedefs, {"small_e": "int", "small_f": "unsigned int"})
+        self.write(
+            "small.h",
+            "typedef enum { LOW = -1, HIGH } small_e;\ntypedef enum { NONE = 0, SOME } small_f;\n",
+        )
+        self.assertEqual(
+            read_header("small.h", self.folder, "small").typedefs,
+            {"small_e": "int", "small_f": "unsigned int"},
+        )
 
     def test_what_can_not_be_read(self) -> None:
         for name, cause in (("none.h", "none.h"), ("small.h", "small.h")):
@@ -85,12 +105,16 @@ class Headers(InFolder):
 
     def test_probe(self) -> None:
         rows = {
-            "five": "CONSTANT(SMALL_FIVE)", "b": "CONSTANT(SMALL_B)", "type": "CONSTANT(SMALL_TYPE)", "sum": "CONSTANT(SMALL_SUM(1, 2l))",
-            "first": "PLACE(small_t, first)", "high": "BITS(small_t, high)", "name": "SAME(small_name, const char *(int))", "no": "CONSTANT(SMALL_NO)",
-            "call": "SAME(small_call, long (void (*call)(int), small_t *values))", "tab": 'printf("a\\tb")', "size": "SIZE(small_u)",
+            "five": "CONSTANT(SMALL_FIVE)", "b": "CONSTANT(SMALL_B)",
+            "type": "CONSTANT(SMALL_TYPE)", "sum": "CONSTANT(SMALL_SUM(1, 2l))",
+            "first": "PLACE(small_t, first)", "high": "BITS(small_t, high)",
+            "name": "SAME(small_name, const char *(int))", "no": "CONSTANT(SMALL_NO)",
+            "call": "SAME(small_call, long (void (*call)(int), small_t *values))",
+            "tab": 'printf("a\\tb")', "size": "SIZE(small_u)",
         }
         self.assertEqual(probe("small.h", self.folder, rows), {
-            "five": "5 int", "b": "7 int", "sum": "3 long", "first": "4 bytes at 24", "high": "40=f8 unsigned", "name": "that type", "call": "another type",
+            "five": "5 int", "b": "7 int", "sum": "3 long", "first": "4 bytes at 24",
+            "high": "40=f8 unsigned", "name": "that type", "call": "another type",
             "tab": "a\tb", "size": "8 bytes, aligned to 8",
         })
 
@@ -100,14 +124,23 @@ class Interface(unittest.TestCase):
     def test_the_document_has_each_function(self) -> None:
         declared = set(read_header("papi.h", ROOT / "include").functions)
         table = (ROOT / "docs/C_FUNCTIONS.md").read_text(encoding="utf-8")
-        named = [name for row in table.splitlines() if row.startswith("| `PAPI_") for name in re.findall(r"`(PAPI_\w+)`", row.split("|")[1])]
+        named = [
+            name for row in table.splitlines() if row.startswith("| `PAPI_")
+            for name in re.findall(r"`(PAPI_\w+)`", row.split("|")[1])
+        ]
         self.assertEqual(len(declared), 89)
         self.assertEqual(sorted(named), sorted(declared))
 
 
 class Fortran(InFolder):
     def test_forms_read_back(self) -> None:
-        values = {"PAPI_NULL": -1, "PAPI_OK": 0, "PAPI_L1_DCM": -(2**31), "PAPI_DOM_HWSPEC": 2**31, "PAPI_NATIVE_AND_MASK": 0xBFFFFFFF}
+        values = {
+            "PAPI_NULL": -1,
+            "PAPI_OK": 0,
+            "PAPI_L1_DCM": -(2**31),
+            "PAPI_DOM_HWSPEC": 2**31,
+            "PAPI_NATIVE_AND_MASK": 0xBFFFFFFF,
+        }
         signed = {**values, "PAPI_DOM_HWSPEC": -(2**31), "PAPI_NATIVE_AND_MASK": 0xBFFFFFFF - 2**32}
         for file in FORTRAN_HEADERS:
             self.write(file, fortran_text(file, values))
@@ -118,7 +151,9 @@ class Fortran(InFolder):
         with self.assertRaisesRegex(Fault, "^not a number: two$"):
             read_constants(self.folder / "fpapi.h")
         long = "PAPI_" + "X" * 60
-        with self.assertRaisesRegex(Fault, f"^f77papi.h: a line has more than 72 columns: .*{long}"):
+        with self.assertRaisesRegex(
+            Fault, f"^f77papi.h: a line has more than 72 columns: .*{long}"
+        ):
             fortran_text("f77papi.h", {long: 1})
         self.assertIn(long, fortran_text("f90papi.h", {long: 1}))
 

@@ -1,4 +1,5 @@
-"""formats.causes: the causes of faults are those of the definitions, and each has its case in what is said of error lines."""
+"""formats.causes: the causes of faults are those of the definitions, and each has its case in what
+is said of error lines."""
 
 from __future__ import annotations
 
@@ -17,7 +18,14 @@ DEFINED = {
     "regions": ("region_report/specs/Causes.antt", "text_of"),
     "stream": ("papi_base/specs/LineCauses.antt", "cause_text"),
 }
-PLACES = {"unit": "papi: NAME: row R", "presets": "papi: NAME: row R", "map": "papi: NAME: row R", "script": "papi: NAME: line L", "regions": "papi: NAME: line L", "stream": "papi: stream T: line L"}
+PLACES = {
+    "unit": "papi: NAME: row R",
+    "presets": "papi: NAME: row R",
+    "map": "papi: NAME: row R",
+    "script": "papi: NAME: line L",
+    "regions": "papi: NAME: line L",
+    "stream": "papi: stream T: line L",
+}
 
 
 class Causes(unittest.TestCase):
@@ -25,12 +33,20 @@ class Causes(unittest.TestCase):
         self.assertEqual(set(CAUSES), set(DEFINED))
         for kind, (file, name) in DEFINED.items():
             text = (ROOT / "crates" / file).read_text(encoding="utf-8")
-            self.assertEqual(tuple(re.findall(rf'^{name} .* = codes "(.*)"$', text, re.M)), CAUSES[kind], kind)
+            self.assertEqual(
+                tuple(re.findall(rf'^{name} .* = codes "(.*)"$', text, re.M)), CAUSES[kind], kind
+            )
 
     def test_each_has_its_case_in_the_usage(self) -> None:
-        blocks = [block.split("\n") for block in (ROOT / "bin/usage/errors").read_text(encoding="utf-8").split("\n\n")[1:]]
+        blocks = [
+            block.split("\n")
+            for block in (ROOT / "bin/usage/errors").read_text(encoding="utf-8").split("\n\n")[1:]
+        ]
         for kind, place in PLACES.items():
-            said = [lines[0].removeprefix(f"{place}: ") for lines in blocks if lines[1].split()[0] == kind and lines[0].startswith(f"{place}: ")]
+            said = [
+                lines[0].removeprefix(f"{place}: ") for lines in blocks
+                if lines[1].split()[0] == kind and lines[0].startswith(f"{place}: ")
+            ]
             self.assertEqual(sorted(said), sorted(CAUSES[kind]), kind)
 
     def test_a_pattern_fits_the_causes_of_its_kinds_alone(self) -> None:

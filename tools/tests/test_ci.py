@@ -1,4 +1,5 @@
-"""examples/ci: a gate in each language fails where a change costs over 2 % more, and in no other case."""
+"""examples/ci: a gate in each language fails where a change costs over 2 % more, and in no other
+case."""
 
 from __future__ import annotations
 

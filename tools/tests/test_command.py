@@ -1,4 +1,5 @@
-"""What all tools share: statuses, signals that wait, lines of standard input, and the line that shows the progress."""
+"""What all tools share: statuses, signals that wait, lines of standard input, and the line that
+shows the progress."""
 
 from __future__ import annotations
 
@@ -26,10 +27,16 @@ class Statuses(unittest.TestCase):
 
     def test_each_end_has_its_status_and_line(self) -> None:
         cases: list[tuple[BaseException, int, str]] = [
-            (Fault("no"), 1, "it: no\n"), (Fault("full", 3), 3, "it: full\n"), (SystemExit(7), 7, ""), (SystemExit(None), 0, ""), (SystemExit("words"), 1, ""),
-            (KeyboardInterrupt(), 130, ""), (BrokenPipeError(), 1, ""), (RecursionError(), 1, "it: the input is nested too deep\n"), (MemoryError(), 1, "it: out of memory\n"),
-            (OSError(2, "is gone", "some"), 1, "it: some: is gone\n"), (OSError(2, "is gone", b"some"), 1, "it: some: is gone\n"), (OSError(2, "is gone"), 1, "it: is gone\n"),
-            (OSError("bare"), 1, "it: bare\n"), (OSError(), 1, "it: OSError\n"), (OSError(2, "is gone", 5), 1, "it: is gone\n"),
+            (Fault("no"), 1, "it: no\n"), (Fault("full", 3), 3, "it: full\n"),
+            (SystemExit(7), 7, ""), (SystemExit(None), 0, ""), (SystemExit("words"), 1, ""),
+            (KeyboardInterrupt(), 130, ""), (BrokenPipeError(), 1, ""),
+            (RecursionError(), 1, "it: the input is nested too deep\n"),
+            (MemoryError(), 1, "it: out of memory\n"),
+            (OSError(2, "is gone", "some"), 1, "it: some: is gone\n"),
+            (OSError(2, "is gone", b"some"), 1, "it: some: is gone\n"),
+            (OSError(2, "is gone"), 1, "it: is gone\n"),
+            (OSError("bare"), 1, "it: bare\n"), (OSError(), 1, "it: OSError\n"),
+            (OSError(2, "is gone", 5), 1, "it: is gone\n"),
         ]
         for error, status, line in cases:
             self.assertEqual(self.told(error), (status, line), repr(error))
@@ -42,34 +49,65 @@ class Statuses(unittest.TestCase):
 
 class Signals(InFolder):
     def run_code(self, *lines: str) -> subprocess.CompletedProcess[str]:
-        code = "\n".join(("import os, signal, sys", "from parts.command import *", "from parts.started import temporary_folder", "kill = lambda number: os.kill(os.getpid(), number)",
-                          "def work():", *(f" {line}" for line in lines), "end_with('it', work)"))
-        return subprocess.run([sys.executable, "-B", "-c", code], cwd=self.folder, env={"PYTHONPATH": str(TOOLS), "TMPDIR": str(self.folder)}, capture_output=True, text=True,
-                              preexec_fn=lambda: [signal.signal(each, signal.SIG_DFL) for each in command.ENDING_SIGNALS])
+        code = "\n".join(
+            (
+                "import os, signal, sys", "from parts.command import *",
+                "from parts.started import temporary_folder",
+                "kill = lambda number: os.kill(os.getpid(), number)", "def work():",
+                *(f" {line}" for line in lines), "end_with('it', work)",
+            )
+        )
+        return subprocess.run(
+            [sys.executable, "-B", "-c", code],
+            cwd=self.folder,
+            env={"PYTHONPATH": str(TOOLS), "TMPDIR": str(self.folder)},
+            capture_output=True,
+            text=True,
+            preexec_fn=lambda: [
+                signal.signal(each, signal.SIG_DFL) for each in command.ENDING_SIGNALS
+            ],
+        )
 
     def test_a_signal_waits_for_the_end_of_the_block(self) -> None:
         for number in command.ENDING_SIGNALS:
-            done = self.run_code("with uninterrupted():", f"  kill({int(number)}); print('inside', flush=True)", "print('after', flush=True)")
-            self.assertEqual((done.returncode, done.stdout, done.stderr), (128 + number, "inside\n", ""))
+            done = self.run_code(
+                "with uninterrupted():", f"  kill({int(number)}); print('inside', flush=True)",
+                "print('after', flush=True)",
+            )
+            self.assertEqual(
+                (done.returncode, done.stdout, done.stderr), (128 + number, "inside\n", "")
+            )
 
     def test_blocks_within_blocks(self) -> None:
-        done = self.run_code("with uninterrupted():", "  with uninterrupted():", "    kill(15)", "  print('between', flush=True)", "print('after', flush=True)")
+        done = self.run_code(
+            "with uninterrupted():", "  with uninterrupted():", "    kill(15)",
+            "  print('between', flush=True)", "print('after', flush=True)",
+        )
         self.assertEqual((done.returncode, done.stdout), (143, "between\n"))
         done = self.run_code("with uninterrupted():", "  pass", "print('done')")
         self.assertEqual((done.returncode, done.stdout), (0, "done\n"))
 
     def test_a_folder_is_gone_after_a_signal(self) -> None:
-        done = self.run_code("with temporary_folder('some-') as folder:", "  (folder / 'x').touch()", "  print(folder.name[:5], folder.parent == Path.cwd(), flush=True)", "  kill(15)")
-        self.assertEqual((done.returncode, done.stdout, list(self.folder.iterdir())), (143, "some- True\n", []))
+        done = self.run_code(
+            "with temporary_folder('some-') as folder:", "  (folder / 'x').touch()",
+            "  print(folder.name[:5], folder.parent == Path.cwd(), flush=True)", "  kill(15)",
+        )
+        self.assertEqual(
+            (done.returncode, done.stdout, list(self.folder.iterdir())), (143, "some- True\n", [])
+        )
 
     def test_a_second_signal_does_not_disturb_the_end(self) -> None:
-        done = self.run_code("try: kill(15)", "finally: kill(1); kill(2); print('put away', flush=True)")
+        done = self.run_code(
+            "try: kill(15)", "finally: kill(1); kill(2); print('put away', flush=True)"
+        )
         self.assertEqual((done.returncode, done.stdout, done.stderr), (143, "put away\n", ""))
 
 
 class Input(unittest.TestCase):
     def lines(self, content: bytes, most: int | None = None) -> list[bytes]:
-        with mock.patch.object(sys, "stdin", SimpleNamespace(buffer=io.BytesIO(content))), mock.patch.object(command, "LONGEST_LINE", 4):
+        with mock.patch.object(
+            sys, "stdin", SimpleNamespace(buffer=io.BytesIO(content))
+        ), mock.patch.object(command, "LONGEST_LINE", 4):
             return list(input_lines(most))
 
     def test_lines(self) -> None:
@@ -107,8 +145,13 @@ class Progressing(unittest.TestCase):
         return terminal.getvalue()
 
     def test_a_line_on_a_terminal(self) -> None:
-        self.assertEqual(self.shown(Terminal()), "\rcases: 1,000\x1b[K\rcases: nearly\x1b[K\r\x1b[K")
-        self.assertEqual(self.shown(Terminal(), 2000), "\rcases: 1,000 of 2,000\x1b[K\rcases: nearly\x1b[K\r\x1b[K")
+        self.assertEqual(
+            self.shown(Terminal()), "\rcases: 1,000\x1b[K\rcases: nearly\x1b[K\r\x1b[K"
+        )
+        self.assertEqual(
+            self.shown(Terminal(), 2000),
+            "\rcases: 1,000 of 2,000\x1b[K\rcases: nearly\x1b[K\r\x1b[K",
+        )
 
     def test_none_elsewhere(self) -> None:
         self.assertEqual((self.shown(io.StringIO()), self.shown(Gone())), ("", ""))
@@ -116,7 +159,10 @@ class Progressing(unittest.TestCase):
 
 class Texts(InFolder):
     def test_counted(self) -> None:
-        self.assertEqual([counted(number, "name") for number in (0, 1, 2, 1000)], ["0 names", "1 name", "2 names", "1,000 names"])
+        self.assertEqual(
+            [counted(number, "name") for number in (0, 1, 2, 1000)],
+            ["0 names", "1 name", "2 names", "1,000 names"],
+        )
 
     def test_the_text_of_a_file(self) -> None:
         (self.folder / "some").write_bytes("ä\r\nb\rc\n".encode())

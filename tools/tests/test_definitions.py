@@ -1,4 +1,5 @@
-"""The guide to the definitions: what it reaches, from a contract on, in a repository of two small crates."""
+"""The guide to the definitions: what it reaches, from a contract on, in a repository of two small
+crates."""
 
 from __future__ import annotations
 
@@ -50,11 +51,17 @@ twice n = n + n
 """
 FILES = {
     "crates.txt": "low:\npapi_tools: low\n",
-    "docs/ARCHITECTURE.md": "| Crate | Holds |\n|---|---|\n| `papi_tools` | the tools |\n| `low` | numbers of PAPI |\n",
+    "docs/ARCHITECTURE.md": (
+        "| Crate | Holds |\n|---|---|\n| `papi_tools` | the tools |\n| `low` | numbers of PAPI |\n"
+    ),
     "crates/papi_tools/src/top.rt": TOP,
     "crates/papi_tools/specs/Top.antt": TOP_SPECS,
-    "crates/low/src/kind.rt": "/// A kind.\n#[derive(Drop)]\npub enum Kind {\n    // one\n    First,\n    Second,\n}\n",
-    "crates/low/src/limits.rt": "/// At most so many.\n///\n/// More words.\npub const MOST: u64 = 5;\n",
+    "crates/low/src/kind.rt": (
+        "/// A kind.\n#[derive(Drop)]\npub enum Kind {\n    // one\n    First,\n    Second,\n}\n"
+    ),
+    "crates/low/src/limits.rt": (
+        "/// At most so many.\n///\n/// More words.\npub const MOST: u64 = 5;\n"
+    ),
     "crates/low/specs/Numbers.antt": LOW_SPECS,
 }
 
@@ -68,41 +75,78 @@ class Definitions(InFolder):
 
     def test_what_the_contract_reaches_is_there_and_nothing_else(self) -> None:
         guide = read_guide(self.folder)
-        self.assertEqual({it.place.name for it in guide.definitions}, {"Good", "number", "twice", "Kind", "MOST"})
-        self.assertEqual(total_line(guide), "3 definitions of 7 lines in 2 files, and 2 types of 5 lines")
+        self.assertEqual(
+            {it.place.name for it in guide.definitions}, {"Good", "number", "twice", "Kind", "MOST"}
+        )
+        self.assertEqual(
+            total_line(guide), "3 definitions of 7 lines in 2 files, and 2 types of 5 lines"
+        )
 
     def test_the_marks_of_a_region_say_nothing_and_end_nothing(self) -> None:
         def said() -> list[tuple[str, str, int]]:
-            return [(it.place.name, it.sentence, it.lines) for it in some(read_guide(self.folder).definitions)]
+            return [
+                (it.place.name, it.sentence, it.lines)
+                for it in some(read_guide(self.folder).definitions)
+            ]
 
         before = said()
-        self.write("crates/low/specs/Numbers.antt", LOW_SPECS.replace("-- the number", "-- tools/make_x: begin\n-- the number").replace("number Second", "-- tools/make_x: end\nnumber Second"))
-        self.write("crates/low/src/kind.rt", "// tools/make_x: begin\n" + FILES["crates/low/src/kind.rt"])
+        self.write(
+            "crates/low/specs/Numbers.antt",
+            LOW_SPECS.replace("-- the number", "-- tools/make_x: begin\n-- the number").replace(
+                "number Second", "-- tools/make_x: end\nnumber Second"
+            ),
+        )
+        self.write(
+            "crates/low/src/kind.rt", "// tools/make_x: begin\n" + FILES["crates/low/src/kind.rt"]
+        )
         self.assertEqual(said(), before)
 
     def test_a_variant_is_of_its_type_in_its_file(self) -> None:
         for module, name, of_type in (
-            ("low.specs.declared.kind.Kind.TheVariants", "First", ("low.specs.declared.kind", "Kind")), ("low.specs.declared.limits.TheConstants", "MOST", ("low.specs.declared.limits", "MOST")),
-            ("low.specs.declared.kind.Kind", "Kind", ("low.specs.declared.kind", "Kind")), ("low.specs.declared.a.b.Kind.TheVariants", "First", ("low.specs.declared.a.b", "Kind")),
+            (
+                "low.specs.declared.kind.Kind.TheVariants", "First",
+                ("low.specs.declared.kind", "Kind"),
+            ),
+            (
+                "low.specs.declared.limits.TheConstants", "MOST",
+                ("low.specs.declared.limits", "MOST"),
+            ),
+            ("low.specs.declared.kind.Kind", "Kind", ("low.specs.declared.kind", "Kind")),
+            (
+                "low.specs.declared.a.b.Kind.TheVariants", "First",
+                ("low.specs.declared.a.b", "Kind"),
+            ),
         ):
             self.assertEqual(DefinitionsOf.type_of(Named(module, name)), Named(*of_type))
 
     def test_a_module_that_hands_a_name_on(self) -> None:
         before = {it.place for it in some(read_guide(self.folder).definitions)}
         self.write("crates/low/specs/Handing.antt", "use Rattle.low.specs.Numbers.{number}\n")
-        self.write("crates/papi_tools/specs/Top.antt", TOP_SPECS.replace("specs.Numbers as", "specs.Handing as"))
+        self.write(
+            "crates/papi_tools/specs/Top.antt",
+            TOP_SPECS.replace("specs.Numbers as", "specs.Handing as"),
+        )
         self.assertEqual({it.place for it in read_guide(self.folder).definitions}, before)
 
     def test_a_type_of_the_crate_s_first_file(self) -> None:
-        self.write("crates/low/src/lib.rt", "mod kind;\n\n/// At the top.\npub enum Root {\n    One,\n}\n")
-        self.write("crates/papi_tools/specs/Top.antt", TOP_SPECS.replace("kind.Kind.{Kind}", "Root.{Root}").replace("(k : Kind)", "(k : Root)"))
+        self.write(
+            "crates/low/src/lib.rt", "mod kind;\n\n/// At the top.\npub enum Root {\n    One,\n}\n"
+        )
+        self.write(
+            "crates/papi_tools/specs/Top.antt",
+            TOP_SPECS.replace("kind.Kind.{Kind}", "Root.{Root}").replace(
+                "(k : Kind)", "(k : Root)"
+            ),
+        )
         self.assertIn("Root", {it.place.name for it in read_guide(self.folder).definitions})
 
     def test_what_a_crate_holds_keeps_its_capitals(self) -> None:
         self.assertIn("\nNumbers of PAPI. ", guide_page(read_guide(self.folder)))
 
     def test_a_use_may_take_several_lines(self) -> None:
-        self.assertEqual(statements("use a.{b,\n  c,\n}\nx\nghost use d;\n"), ["use a.{b, c, }", "ghost use d;"])
+        self.assertEqual(
+            statements("use a.{b,\n  c,\n}\nx\nghost use d;\n"), ["use a.{b, c, }", "ghost use d;"]
+        )
 
     def test_the_page_is_written_and_looked_at(self) -> None:
         """In a repository that has the tool. The README has the total too."""
@@ -111,7 +155,10 @@ class Definitions(InFolder):
         total = total_line(read_guide(self.folder))
 
         def run(*words: str) -> tuple[int, str, str]:
-            done = subprocess.run([str(self.folder / "tools/make_definitions"), *words], capture_output=True, text=True)
+            done = subprocess.run(
+                [str(self.folder / "tools/make_definitions"), *words], capture_output=True,
+                text=True,
+            )
             return done.returncode, done.stdout, done.stderr
 
         def old(name: str) -> tuple[int, str, str]:
@@ -121,8 +168,13 @@ class Definitions(InFolder):
         self.write("README.md", stale)
         self.assertEqual(run("--check"), old("docs/DEFINITIONS.md"))
         self.assertEqual(run(), (0, f"{total}\n", ""))
-        self.assertEqual((self.folder / "docs/DEFINITIONS.md").read_text(encoding="utf-8"), guide_page(read_guide(self.folder)))
-        self.assertEqual((self.folder / "README.md").read_text(encoding="utf-8"), f"All is {total}.\n")
+        self.assertEqual(
+            (self.folder / "docs/DEFINITIONS.md").read_text(encoding="utf-8"),
+            guide_page(read_guide(self.folder)),
+        )
+        self.assertEqual(
+            (self.folder / "README.md").read_text(encoding="utf-8"), f"All is {total}.\n"
+        )
         self.assertEqual(run("--check"), (0, "", ""))
         for name, text in (("README.md", stale), ("docs/DEFINITIONS.md", "old\n")):
             self.write(name, text)
@@ -131,18 +183,28 @@ class Definitions(InFolder):
             self.assertEqual(run(), (0, f"{total}\n", ""))
         for text, times in (("nothing\n", "no"), (stale + stale, "2")):
             self.write("README.md", text)
-            self.assertEqual(run(), (1, "", f"make_definitions: README.md has {times} totals like: {total}\n"))
+            self.assertEqual(
+                run(), (1, "", f"make_definitions: README.md has {times} totals like: {total}\n")
+            )
 
     def test_a_row_has_the_sentence_the_place_and_the_lines(self) -> None:
         page = guide_page(read_guide(self.folder))
-        self.assertIn("| [`Good`](../crates/papi_tools/specs/Top.antt#L8) | The number is that of the kind | 2 |", page)
-        self.assertIn("| [`number`](../crates/low/specs/Numbers.antt#L5) | The number \\| of a kind | 3 |", page)
-        self.assertIn("| [`twice`](../crates/low/specs/Numbers.antt#L11) | Twice a number | 2 |", page)
+        self.assertIn("| [`Good`](../crates/papi_tools/specs/Top.antt#L8) | The number is that of "
+                      "the kind | 2 |", page)
+        self.assertIn(
+            "| [`number`](../crates/low/specs/Numbers.antt#L5) | The number \\| of a kind | 3 |",
+            page,
+        )
+        self.assertIn(
+            "| [`twice`](../crates/low/specs/Numbers.antt#L11) | Twice a number | 2 |", page
+        )
         self.assertIn("| [`MOST`](../crates/low/src/limits.rt#L4) | At most so many | 1 |", page)
         self.assertLess(page.index("## papi_tools"), page.index("## low"))
 
     def test_a_definition_without_a_sentence_is_refused(self) -> None:
-        self.write("crates/low/specs/Numbers.antt", LOW_SPECS.replace("-- twice\n-- a number\n", ""))
+        self.write(
+            "crates/low/specs/Numbers.antt", LOW_SPECS.replace("-- twice\n-- a number\n", "")
+        )
         with self.assertRaisesRegex(Fault, "Numbers.antt: twice has no sentence above it"):
             read_guide(self.folder)
 
@@ -152,7 +214,10 @@ class Definitions(InFolder):
             read_guide(self.folder)
 
     def test_a_source_without_the_contract_is_told(self) -> None:
-        for old, new, said in (("fn papi_main", "fn other", "no function papi_main"), ("\n{\n", "\n", "no end of the contract of papi_main")):
+        for old, new, said in (
+            ("fn papi_main", "fn other", "no function papi_main"),
+            ("\n{\n", "\n", "no end of the contract of papi_main"),
+        ):
             self.write("crates/papi_tools/src/top.rt", TOP.replace(old, new))
             with self.assertRaisesRegex(Fault, f"top.rt: {said}$"):
                 read_guide(self.folder)

@@ -31,7 +31,9 @@ class Check(InFolder):
             self.write(f"examples/{name}", text)
 
     def check(self, say: str = 'echo "$2"', fail: str = 'echo "$2" >&2; exit 3') -> tuple[int, str]:
-        program = self.write("program", f"#!/bin/sh\ncase $1 in\nsay) {say} ;;\n*) {fail} ;;\nesac\n")
+        program = self.write(
+            "program", f"#!/bin/sh\ncase $1 in\nsay) {say} ;;\n*) {fail} ;;\nesac\n"
+        )
         os.chmod(program, 0o755)
         done = subprocess.run(
             [str(self.folder / "examples/check"), program],

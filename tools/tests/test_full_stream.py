@@ -1,4 +1,5 @@
-"""tools/record at the limit of a stream: its line says how the run is counted, and these words do."""
+"""tools/record at the limit of a stream: its line says how the run is counted, and these words
+do."""
 
 from __future__ import annotations
 
@@ -11,7 +12,10 @@ from pathlib import Path
 from tests.support import ROOT, TOOLS, needs_command
 from tests.whole import EXIT, Whole, needs_papi
 
-SAID = re.compile(r"(?:papi_)?record(?:-x)?: the stream is full \(67,108,864 bytes\) at (0x[0-9a-f]+)[^:]*: (.*)\n")
+SAID = re.compile(
+    r"(?:papi_)?record(?:-x)?: the stream is full \(67,108,864 bytes\) at (0x[0-9a-f]+)[^:]*: "
+    r"(.*)\n"
+)
 ADVICE = (
     "the run was stopped there; --from, --only-calls and a larger --window make it smaller; "
     "a count has no stream and no limit: "

@@ -137,7 +137,9 @@ class Kernels(unittest.TestCase):
         command = [str(ROOT / "checks/kernels"), "--processors", "skl", "amd64_fam17h_zen1"]
         done = subprocess.run([sys.executable, *command], capture_output=True, text=True)
         self.assertEqual((done.returncode, done.stderr), (0, ""), done.stdout[-3000:])
-        self.assertRegex(done.stdout, r"skl: 113 of 117 events tried; Valgrind does not run AVX-512: ")
+        self.assertRegex(
+            done.stdout, r"skl: 113 of 117 events tried; Valgrind does not run AVX-512: "
+        )
         self.assertRegex(done.stdout, r"\n\d{3} passed, 0 failed\n\Z")
 
 
@@ -153,7 +155,9 @@ class Meanings(unittest.TestCase):
 
     def test_an_event_that_counts_something_else(self) -> None:
         """By the first kernel that shows it; and one that no kernel shows is told."""
-        kernels = [kernel for kernel in all_kernels() if kernel.name in ("jmp_direct", "call_direct")]
+        kernels = [
+            kernel for kernel in all_kernels() if kernel.name in ("jmp_direct", "call_direct")
+        ]
         jumps = ("jumps",)
         for weights, wanted in (
             ({"jumps": 1}, ("", True)),

@@ -1,4 +1,5 @@
-"""licences/copyright: whose words, numbers and code are where, and that nothing of others is left out."""
+"""licences/copyright: whose words, numbers and code are where, and that nothing of others is left
+out."""
 
 from __future__ import annotations
 
@@ -49,7 +50,9 @@ def tracked() -> list[str]:
     if not (ROOT / ".git").exists():
         paths = (path.relative_to(ROOT) for path in ROOT.rglob("*") if path.is_file())
         return some([str(path) for path in paths if not MADE & set(path.parts)])
-    listed = subprocess.run(["git", "ls-files"], cwd=ROOT, check=True, capture_output=True, text=True)
+    listed = subprocess.run(
+        ["git", "ls-files"], cwd=ROOT, check=True, capture_output=True, text=True
+    )
     return some(listed.stdout.splitlines())
 
 

@@ -44,7 +44,10 @@ class Usages(unittest.TestCase):
     def test_calls_stand_with_what_they_take(self) -> None:
         """The usage has each call of a script, with its arguments."""
         for tool, calls in (("papi_run", CALLS), ("papi_regions", REGION_CALLS)):
-            self.assertEqual([option.word for option in read_usage(tool).calls], [" ".join((call, *arguments)) for call, arguments in calls.items()])
+            self.assertEqual(
+                [option.word for option in read_usage(tool).calls],
+                [" ".join((call, *arguments)) for call, arguments in calls.items()],
+            )
         self.assertEqual(papi_calls("papi_run")["PAPI_create_eventset"], "create")
         header = (ROOT / "include/papi.h").read_text(encoding="utf-8")
         for function in (*papi_calls("papi_run"), *papi_calls("papi_regions")):
@@ -54,16 +57,24 @@ class Usages(unittest.TestCase):
 class Sections(unittest.TestCase):
     def test_programs_outside_the_proofs(self) -> None:
         parser = parser_of(ROOT / "tools/make_unit")
-        lines = command_section(parser, Page("does it", "[PMU]", (("0", "Done."),), (("So:", "tools/make_unit skl"),)))
+        lines = command_section(
+            parser, Page("does it", "[PMU]", (("0", "Done."),), (("So:", "tools/make_unit skl"),))
+        )
         self.assertEqual(lines[:3], ["## make_unit", "", "    make_unit [PMU]"])
-        for line in ("| `PMU` | the PMU's name in libpfm4, such as skl |", "| 0 | Done. |", "tools/make_unit skl"):
+        for line in (
+            "| `PMU` | the PMU's name in libpfm4, such as skl |", "| 0 | Done. |",
+            "tools/make_unit skl",
+        ):
             self.assertIn(line, lines)
-        self.assertTrue(any(line.startswith("| `--counters N` | take the first N") for line in lines))
+        self.assertTrue(
+            any(line.startswith("| `--counters N` | take the first N") for line in lines)
+        )
 
     def test_each_code_has_its_row(self) -> None:
         rows = [line for line in codes_section() if line.startswith("| `PAPI_")]
         self.assertEqual([row.split("`")[1] for row in rows], list(SENTENCES))
-        self.assertIn("| `PAPI_ENOTRUN` | -9 | EventSet is currently not running | `stop`, `raw`: the set does not run |", rows)
+        self.assertIn("| `PAPI_ENOTRUN` | -9 | EventSet is currently not running | `stop`, `raw`: "
+                      "the set does not run |", rows)
         for row in rows:
             self.assertRegex(row, r"\| [^|]{8,} \|$")
 
@@ -78,19 +89,39 @@ class Faults(InFolder):
         return str(caught.exception)
 
     def test_usages(self) -> None:
-        self.assertEqual(self.fault("some", "Usage: other -U UNIT\n\nDoes it.\n"), "bin/usage/some: does not begin with its usage")
-        self.assertEqual(self.fault("some", "Usage: some -U UNIT\n"), "bin/usage/some: does not say what the tool does")
-        self.assertEqual(self.fault("some", "Usage: some\n\nDoes it.\n\n  -U UNIT\n"), "bin/usage/some: a word without a meaning: -U UNIT")
+        self.assertEqual(
+            self.fault("some", "Usage: other -U UNIT\n\nDoes it.\n"),
+            "bin/usage/some: does not begin with its usage",
+        )
+        self.assertEqual(
+            self.fault("some", "Usage: some -U UNIT\n"),
+            "bin/usage/some: does not say what the tool does",
+        )
+        self.assertEqual(
+            self.fault("some", "Usage: some\n\nDoes it.\n\n  -U UNIT\n"),
+            "bin/usage/some: a word without a meaning: -U UNIT",
+        )
 
     def test_errors(self) -> None:
-        self.assertEqual(self.fault("errors", "# all\n\npapi: x\nwords 2\nCause.\n", lambda _: read_errors()), "bin/usage/errors: a block has 3 lines and not 4: papi: x")
+        self.assertEqual(
+            self.fault("errors", "# all\n\npapi: x\nwords 2\nCause.\n", lambda _: read_errors()),
+            "bin/usage/errors: a block has 3 lines and not 4: papi: x",
+        )
 
     def test_what_is_read(self) -> None:
-        self.write("papi_some", "Usage: papi_some -U UNIT WORD..\n\nDoes it,\nand that.\n\n  WORD..   what\n  -U UNIT  the unit\n\nA note\non it.\n\nExample, here:\n\n  no option\n")
+        self.write("papi_some", "Usage: papi_some -U UNIT WORD..\n\nDoes it,\nand that.\n\n"
+                                "  WORD..   what\n  -U UNIT  the unit\n\nA note\non it.\n\n"
+                                "Example, here:\n\n  no option\n")
         with mock.patch("parts.usage.USAGE", self.folder):
             usage = read_usage("papi_some")
-        self.assertEqual((usage.line, usage.lead, usage.notes), ("-U UNIT WORD..", "Does it, and that.", ("A note on it.",)))
-        self.assertEqual([(option.word, option.meaning) for option in usage.options], [("WORD..", "what"), ("-U UNIT", "the unit")])
+        self.assertEqual(
+            (usage.line, usage.lead, usage.notes),
+            ("-U UNIT WORD..", "Does it, and that.", ("A note on it.",)),
+        )
+        self.assertEqual(
+            [(option.word, option.meaning) for option in usage.options],
+            [("WORD..", "what"), ("-U UNIT", "the unit")],
+        )
         self.assertEqual(usage.origins(), {"words", "memory", "output", "unit", "files"})
 
 
@@ -99,12 +130,16 @@ ERRORS = "papi: x|y\nwords 2\nA|cause.\nA|remedy.\n\n(no line)\nunit 1\nAnother.
 
 
 class Tables(InFolder):
-    """In a table of Markdown a `|` has a backslash before it, and a row of the manual page has mdoc's own."""
+    """In a table of Markdown a `|` has a backslash before it, and a row of the manual page has
+    mdoc's own."""
 
     def setUp(self) -> None:
         super().setUp()
-        for name, text in (("papi", "Usage\n\n  papi_some  this|that\n"), ("papi_some", USAGE), ("errors", ERRORS), ("titles", "one: The first.\n# no\n"), ("one.words", "papi_some\none.words\nA\n"),
-                           ("one.expected", "out\n"), ("one.errors", "papi: one.words: bad\n")):
+        for name, text in (
+            ("papi", "Usage\n\n  papi_some  this|that\n"), ("papi_some", USAGE), ("errors", ERRORS),
+            ("titles", "one: The first.\n# no\n"), ("one.words", "papi_some\none.words\nA\n"),
+            ("one.expected", "out\n"), ("one.errors", "papi: one.words: bad\n"),
+        ):
             self.write(name, text)
         for name in ("USAGE", "EXAMPLES"):
             patch = mock.patch(f"parts.usage.{name}", self.folder)
@@ -113,14 +148,23 @@ class Tables(InFolder):
 
     def test_page(self) -> None:
         page = tools_page([]).splitlines()
-        for line in ("| [papi_some](#papi_some) | this\\|that |", "    papi_some A|B", "Does a|b.", "| `A\\|B` | one\\|other |", "| `papi: x\\|y` | 2 | A\\|cause. | A\\|remedy. |",
-                     "| (no line) | 1 | Another. | None. |", "### Words", "### Unit file (`-U`)", "The first.", "$ bin/papi_some examples/one.words A", "out", "papi: examples/one.words: bad"):
+        for line in (
+            "| [papi_some](#papi_some) | this\\|that |", "    papi_some A|B", "Does a|b.",
+            "| `A\\|B` | one\\|other |", "| `papi: x\\|y` | 2 | A\\|cause. | A\\|remedy. |",
+            "| (no line) | 1 | Another. | None. |", "### Words", "### Unit file (`-U`)",
+            "The first.", "$ bin/papi_some examples/one.words A", "out",
+            "papi: examples/one.words: bad",
+        ):
             self.assertIn(line, page)
         self.assertNotIn("### Script", page)
 
     def test_manual(self) -> None:
         page = manual_page(read_usage("papi_some"), "this|that", "January 1, 2026").splitlines()
-        for line in (".Dt PAPI_SOME 1", ".Nd this|that", ".Ar A\\||B", ".It Ar A\\||B", "One|other.", "$ bin/papi_some examples/one.words A", "papi: examples/one.words: bad", ".It papi: x|y"):
+        for line in (
+            ".Dt PAPI_SOME 1", ".Nd this|that", ".Ar A\\||B", ".It Ar A\\||B", "One|other.",
+            "$ bin/papi_some examples/one.words A", "papi: examples/one.words: bad",
+            ".It papi: x|y",
+        ):
             self.assertIn(line, page)
         self.assertEqual([line for line in page if "no line" in line], [])
 
@@ -139,8 +183,13 @@ class Manuals(unittest.TestCase):
     def test_mandoc_has_nothing_to_say(self) -> None:
         for tool, summary in some(summaries().items()):
             page = manual_page(read_usage(tool), summary, "January 1, 2026")
-            done = subprocess.run(["mandoc", "-T", "lint"], input=page, capture_output=True, text=True)
-            said = [line for line in done.stdout.splitlines() if "referenced manual not found" not in line]
+            done = subprocess.run(
+                ["mandoc", "-T", "lint"], input=page, capture_output=True, text=True
+            )
+            said = [
+                line for line in done.stdout.splitlines()
+                if "referenced manual not found" not in line
+            ]
             self.assertEqual(said, [], tool)
 
     def test_words_that_argparse_reads(self) -> None:
@@ -148,12 +197,20 @@ class Manuals(unittest.TestCase):
         parser.add_argument("-o", "--out", metavar="A,B", help="where %%r is")
         parser.add_argument("--kind", choices=("one", "two"), help="which")
         parser.add_argument("program", metavar="PROGRAM", help="what")
-        page = command_page(parser, Page("does it", "[OPTIONS] PROGRAM", (("0", "Done."),), ()), "January 1, 2026").splitlines()
-        for line in (".Dt PAPI_SOME 1", ".Op Ar OPTIONS", ".It Ar PROGRAM", ".It Fl \\-out Ar A,B", "Where %r is.", ".It Fl \\-kind Ar one\\||two", ".It 0"):
+        page = command_page(
+            parser, Page("does it", "[OPTIONS] PROGRAM", (("0", "Done."),), ()), "January 1, 2026"
+        ).splitlines()
+        for line in (
+            ".Dt PAPI_SOME 1", ".Op Ar OPTIONS", ".It Ar PROGRAM", ".It Fl \\-out Ar A,B",
+            "Where %r is.", ".It Fl \\-kind Ar one\\||two", ".It 0",
+        ):
             self.assertIn(line, page)
 
     def test_a_summary_shows_as_it_is(self) -> None:
-        page = command_page(argparse.ArgumentParser(prog="some"), Page("reads a\\b-c", "", (), ()), "January 1, 2026").splitlines()
+        page = command_page(
+            argparse.ArgumentParser(prog="some"), Page("reads a\\b-c", "", (), ()),
+            "January 1, 2026",
+        ).splitlines()
         self.assertIn(".Nd reads a\\eb\\-c", page)
 
 

@@ -1,4 +1,5 @@
-"""tools/make_unit: the rows of real processors, the counters of event files and of the kernel's tables, and its refusals."""
+"""tools/make_unit: the rows of real processors, the counters of event files and of the kernel's
+tables, and its refusals."""
 
 from __future__ import annotations
 
@@ -12,12 +13,16 @@ from parts.command import Fault
 from parts.event_counters import EventCounters
 from parts.left_out import Account
 from parts.libpfm4 import Event, Libpfm4, Pmu
-from parts.linux_source import PROCESSORS, Constraint, ConstraintTable, Processor, Registers, find_sources
+from parts.linux_source import (
+    PROCESSORS, Constraint, ConstraintTable, Processor, Registers, find_sources,
+)
 from parts.perf_events import Places, read_event_files
 from parts.preset_umasks import read_umasks
 from parts.shared_registers import Need, keep
 from parts.unit_of_pmu import ALWAYS, Converter
-from tests.support import ROOT, TOOLS, InFolder, needs_libpfm4, needs_program, run_program, run_tool, some
+from tests.support import (
+    ROOT, TOOLS, InFolder, needs_libpfm4, needs_program, run_program, run_tool, some,
+)
 
 SAMPLE = str(TOOLS / "tests/sample.events.json")
 
@@ -27,7 +32,8 @@ def places(programmable: set[int], fixed: set[int]) -> Places:
 
 
 class WideCodes:
-    """What stands for libpfm4: of two events one has a code that goes on where a umask has its bits."""
+    """What stands for libpfm4: of two events one has a code that goes on where a umask has its
+    bits."""
 
     def events(self, pmu: Pmu) -> Iterator[Event]:
         return (Event(name, "An event", ()) for name in ("PLAIN", "WIDE"))
@@ -41,7 +47,9 @@ class WideCode(unittest.TestCase):
     def test_a_wide_code_is_left_out(self) -> None:
         converter = Converter(cast(Any, WideCodes()), Pmu("p", "A pmu", "other", 2, 4, 0, 0))
         self.assertEqual([event.name for event in converter.unit().events], ["PLAIN"])
-        self.assertEqual(converter.account.names, {"WIDE": "the code has more than 8 bits and no umask"})
+        self.assertEqual(
+            converter.account.names, {"WIDE": "the code has more than 8 bits and no umask"}
+        )
 
 
 class Names:
@@ -58,17 +66,28 @@ class EventNames(unittest.TestCase):
     def test_a_name_that_a_unit_file_cannot_say(self) -> None:
         converter = Converter(cast(Any, Names()), Pmu("p", "A pmu", "other", 2, 4, 0, 0))
         self.assertEqual([event.name for event in converter.unit().events], ["PLAIN"])
-        self.assertEqual(converter.account.names, {"WITH,COMMA": "the name is not one of a unit file"})
+        self.assertEqual(
+            converter.account.names, {"WITH,COMMA": "the name is not one of a unit file"}
+        )
 
     def test_the_architecture_s_events_are_of_intel_s_cores(self) -> None:
-        for description, kind, more in (("Intel Some", "core", True), ("AMD64 Some", "core", False), ("Intel Some Uncore", "uncore", False)):
+        for description, kind, more in (
+            ("Intel Some", "core", True), ("AMD64 Some", "core", False),
+            ("Intel Some Uncore", "uncore", False),
+        ):
             converter = Converter(cast(Any, Names()), Pmu("p", description, kind, 2, 4, 0, 0))
             self.assertEqual(len(list(converter.source_events())) > 2, more, description)
 
 
 class UnitFile(unittest.TestCase):
     def test_a_umask_has_no_name_of_a_modifier(self) -> None:
-        self.assertEqual([name for name in ("u", "K", "e", "I", "c", "d", "uk", "a b") if unit_file.is_umask_name(name)], ["d", "uk"])
+        self.assertEqual(
+            [
+                name for name in ("u", "K", "e", "I", "c", "d", "uk", "a b")
+                if unit_file.is_umask_name(name)
+            ],
+            ["d", "uk"],
+        )
 
     def test_rows(self) -> None:
         umask = unit_file.Umask("ALL", 1, True, True, "All, of any kind")
@@ -94,15 +113,21 @@ class UnitFile(unittest.TestCase):
         self.assertEqual(len(unit_file.plain("x" * 300)), 200)
 
     def test_names(self) -> None:
-        for name, good in (("A_b-9", True), ("", False), ("A.B", False), ("x" * 64, True), ("x" * 65, False)):
+        for name, good in (
+            ("A_b-9", True), ("", False), ("A.B", False), ("x" * 64, True), ("x" * 65, False),
+        ):
             self.assertEqual(unit_file.is_name(name), good, name)
         self.assertFalse(unit_file.is_umask_name("E"))
 
 
 class PresetUmasks(InFolder):
     def test_umasks_that_a_preset_file_names(self) -> None:
-        name = self.write("presets", "CPU,skl\nPRESET,PAPI_CA_SNP,NOT_DERIVED,skl::Offcore_0:SNP_ANY:u, L2:RFO_HIT,NOTE,'a:b'\n#PRESET,PAPI_L1_DCM,NOT_DERIVED,L1D:MISS\n"
-                                     "EVENT,FP,DERIVED_POSTFIX,N0|N1|+|,FP:SCALAR,FP:WIDE\nPRESETS,A,B,C:D\n")
+        name = self.write(
+            "presets",
+            "CPU,skl\nPRESET,PAPI_CA_SNP,NOT_DERIVED,skl::Offcore_0:SNP_ANY:u, "
+            "L2:RFO_HIT,NOTE,'a:b'\n#PRESET,PAPI_L1_DCM,NOT_DERIVED,L1D:MISS\n"
+            "EVENT,FP,DERIVED_POSTFIX,N0|N1|+|,FP:SCALAR,FP:WIDE\nPRESETS,A,B,C:D\n",
+        )
         wanted = {("OFFCORE_0", "SNP_ANY"), ("L2", "RFO_HIT"), ("FP", "SCALAR"), ("FP", "WIDE")}
         self.assertLessEqual(wanted, read_umasks(name))
         self.assertFalse({("L1D", "MISS"), ("C", "D")} & read_umasks(name))
@@ -117,7 +142,10 @@ class EventFiles(InFolder):
         table = read_event_files([SAMPLE])
         self.assertEqual(table.places((0xC0, 0x00)), places({0, 1, 2, 3}, set()))
         self.assertEqual(table.places((0xC0, 0x01)), places({1}, set()))
-        self.assertEqual(table.places((0xC0, 0x01), unit_file.Fixed(invert=True, amount=10)), places({0, 2, 3}, set()))
+        self.assertEqual(
+            table.places((0xC0, 0x01), unit_file.Fixed(invert=True, amount=10)),
+            places({0, 2, 3}, set()),
+        )
         self.assertEqual(table.places((0xC0, 0x01), unit_file.Fixed(amount=1)), places({1}, set()))
         self.assertEqual(table.places((0x00, 0x01)), places(set(), {0}))
         self.assertEqual(table.places((0x48, 0x01)), places({2}, set()))
@@ -125,9 +153,14 @@ class EventFiles(InFolder):
         self.assertEqual(table.programmable(), 4)
 
     def test_counters_without_hyperthreading(self) -> None:
-        entry = '[{"EventName": "A", "EventCode": "0x1", "Counter": "0,1,2,3", "CounterHTOff": "0,1,2,3,4,5,6,7"}]'
+        entry = (
+            '[{"EventName": "A", "EventCode": "0x1", "Counter": "0,1,2,3", "CounterHTOff": '
+            '"0,1,2,3,4,5,6,7"}]'
+        )
         name = self.write("events.json", entry)
-        self.assertEqual([read_event_files([name], threads).programmable() for threads in (True, False)], [4, 8])
+        self.assertEqual(
+            [read_event_files([name], threads).programmable() for threads in (True, False)], [4, 8]
+        )
 
     def test_texts_of_metrics_are_passed_over(self) -> None:
         texts = self.write("metricgroups.json", '{"Backend": "Grouping of metrics"}')
@@ -140,8 +173,14 @@ class EventFiles(InFolder):
             ("[", "line 1: not JSON"),
             ('{"EventName": 1}', "not a list of events"),
             ("[1]", "not a list of events"),
-            ('[{"EventName": "A", "Counter": "x", "EventCode": "0x1"}]', "A: EventCode, UMask, Counter or a modifier"),
-            ('[{"EventName": "A", "Counter": "0", "EventCode": "0x1", "CounterMask": "x"}]', "A: EventCode, UMask, Counter or a modifier"),
+            (
+                '[{"EventName": "A", "Counter": "x", "EventCode": "0x1"}]',
+                "A: EventCode, UMask, Counter or a modifier",
+            ),
+            (
+                '[{"EventName": "A", "Counter": "0", "EventCode": "0x1", "CounterMask": "x"}]',
+                "A: EventCode, UMask, Counter or a modifier",
+            ),
             ("[]", "a list without an event"),
             ("{}", "not a list of events"),
             ("[{}]", "event 1: it has no key"),
@@ -192,8 +231,11 @@ static inline bool amd_is_pair_event_code(struct hw_perf_event *hwc)
 
 
 # Of Linux, in tools/perf/pmu-events/arch/x86.
-FOLDERS = ("amdzen1 amdzen2 amdzen3 bonnell broadwell broadwellx cascadelakex elkhartlake goldmont haswell haswellx icelake icelakex ivybridge ivytown jaketown knightslanding knightslanding "
-           "nehalemep nehalemex sandybridge sapphirerapids silvermont skylake skylakex westmereep-dp westmereep-sp").split()
+FOLDERS = ("amdzen1 amdzen2 amdzen3 bonnell broadwell broadwellx cascadelakex elkhartlake goldmont "
+           "haswell haswellx icelake icelakex ivybridge ivytown jaketown knightslanding "
+           "knightslanding "
+           "nehalemep nehalemex sandybridge sapphirerapids silvermont skylake skylakex "
+           "westmereep-dp westmereep-sp").split()
 # Of arch/x86/events/intel/core.c.
 TABLES = "bdw core2 gen hsw icl ivb nehalem skl slm snb spr westmere".split()
 
@@ -205,14 +247,30 @@ class Processors(unittest.TestCase):
         self.assertEqual(some(name for name in PROCESSORS if name in known), list(PROCESSORS))
 
     def test_where_linux_has_each(self) -> None:
-        self.assertEqual(sorted(each.folder for each in PROCESSORS.values() if each.folder), FOLDERS)
-        self.assertEqual(sorted({each.table for each in PROCESSORS.values() if each.table}), [f"intel_{name}_event_constraints" for name in TABLES])
-        for pmu, folder, table, registers in (("skx", "skylakex", "skl", "skl"), ("wsm_dp", "westmereep-dp", "westmere", "westmere"), ("ivb", "ivybridge", "ivb", "snb"),
-                                              ("ivb_ep", "ivytown", "ivb", "snbep"), ("icx", "icelakex", "icl", "icl"), ("hsw", "haswell", "hsw", "snbep"),
-                                              ("tmt", "elkhartlake", "slm", "tnt")):
-            self.assertEqual(PROCESSORS[pmu], Processor(folder, f"intel_{table}_event_constraints", f"intel_{registers}_extra_regs"))
+        self.assertEqual(
+            sorted(each.folder for each in PROCESSORS.values() if each.folder), FOLDERS
+        )
+        self.assertEqual(
+            sorted({each.table for each in PROCESSORS.values() if each.table}),
+            [f"intel_{name}_event_constraints" for name in TABLES],
+        )
+        for pmu, folder, table, registers in (
+            ("skx", "skylakex", "skl", "skl"), ("wsm_dp", "westmereep-dp", "westmere", "westmere"),
+            ("ivb", "ivybridge", "ivb", "snb"), ("ivb_ep", "ivytown", "ivb", "snbep"),
+            ("icx", "icelakex", "icl", "icl"), ("hsw", "haswell", "hsw", "snbep"),
+            ("tmt", "elkhartlake", "slm", "tnt"),
+        ):
+            self.assertEqual(
+                PROCESSORS[pmu],
+                Processor(
+                    folder, f"intel_{table}_event_constraints", f"intel_{registers}_extra_regs"
+                ),
+            )
         self.assertEqual(PROCESSORS["amd64_fam17h_zen2"], Processor("amdzen2"))
-        for pmu, none in (("core", Processor(None, "intel_core2_event_constraints")), ("amd64_fam19h_zen4", Processor(None))):
+        for pmu, none in (
+            ("core", Processor(None, "intel_core2_event_constraints")),
+            ("amd64_fam19h_zen4", Processor(None)),
+        ):
             self.assertEqual(PROCESSORS[pmu], none)
 
 
@@ -220,7 +278,10 @@ class KernelSource(InFolder):
     """The macros are those of Linux, arch/x86/events/perf_event.h."""
 
     def source(self, table: str, registers: str = REGISTER_TABLE) -> str:
-        for name, text in (("arch/x86/events/intel/core.c", table + registers), ("tools/perf/pmu-events/arch/x86/skylake/all.json", Path(SAMPLE).read_text())):
+        for name, text in (
+            ("arch/x86/events/intel/core.c", table + registers),
+            ("tools/perf/pmu-events/arch/x86/skylake/all.json", Path(SAMPLE).read_text()),
+        ):
             path = self.folder / "linux" / name
             path.parent.mkdir(parents=True, exist_ok=True)
             path.write_text(text)
@@ -250,26 +311,51 @@ class KernelTables(KernelSource):
         text = TABLE.replace("INTEL_UEVENT_CONSTRAINT(0x1c0, 0x2)", row)
         table = find_sources(self.source(text), "skl").constraints
         assert table is not None
-        for umask, wanted in ((0x08, {2}), (0x0C, {2}), (0xFF, {2}), (0x00, None), (0x04, None), (0xF7, None)):
+        for umask, wanted in (
+            (0x08, {2}), (0x0C, {2}), (0xFF, {2}), (0x00, None), (0x04, None), (0xF7, None),
+        ):
             found = table.places((0xA3, umask), unit_file.NOTHING_FIXED, 8)
             self.assertEqual(found, places(wanted, set()) if wanted else None, umask)
         self.assertIsNone(table.places((0xA7, 0x08), unit_file.NOTHING_FIXED, 8))
 
     def test_files_that_name_no_counter_of_the_table(self) -> None:
-        """The sample names the counters 0, 2 and 3 for a code that the table puts on counter 1: Linux goes by its table."""
+        """The sample names the counters 0, 2 and 3 for a code that the table puts on counter 1:
+        Linux goes by its table."""
         sources = find_sources(self.source(TABLE), "skl")
         total = unit_file.Fixed(invert=True, amount=10)
         for constraints, wanted in ((None, {0, 2, 3}), (sources.constraints, {1})):
-            self.assertEqual(EventCounters(4, 3, read_event_files(sources.events), constraints).places((0xC0, 0x01), total), places(wanted, set()))
+            self.assertEqual(
+                EventCounters(4, 3, read_event_files(sources.events), constraints).places(
+                    (0xC0, 0x01), total
+                ),
+                places(wanted, set()),
+            )
 
     def test_modifiers_stand_where_the_register_has_them(self) -> None:
-        """Intel's event select registers: the edge at bit 18, invert at 23, and the least amount from 24 on."""
-        for bit, modifiers in ((18, unit_file.Fixed(edge=True)), (23, unit_file.Fixed(invert=True, amount=0)), (24, unit_file.Fixed(amount=1))):
+        """Intel's event select registers: the edge at bit 18, invert at 23, and the least amount
+        from 24 on."""
+        for bit, modifiers in (
+            (18, unit_file.Fixed(edge=True)), (23, unit_file.Fixed(invert=True, amount=0)),
+            (24, unit_file.Fixed(amount=1)),
+        ):
             table = ConstraintTable([Constraint(0xC0 | 1 << bit, 0, 0xFF | 1 << bit, 0b10)])
-            self.assertEqual([table.places((0xC0, 0x00), given, 4) for given in (modifiers, unit_file.NOTHING_FIXED)], [places({1}, set()), None], bit)
+            self.assertEqual(
+                [
+                    table.places((0xC0, 0x00), given, 4)
+                    for given in (modifiers, unit_file.NOTHING_FIXED)
+                ],
+                [places({1}, set()), None],
+                bit,
+            )
 
     def amd(self) -> str:
-        for name, text in (("tools/perf/pmu-events/arch/x86/amdzen2/core.json", '[{"EventName": "ex_ret_instr", "EventCode": "0xc0"}]'), ("arch/x86/events/amd/core.c", PAIRS)):
+        for name, text in (
+            (
+                "tools/perf/pmu-events/arch/x86/amdzen2/core.json",
+                '[{"EventName": "ex_ret_instr", "EventCode": "0xc0"}]',
+            ),
+            ("arch/x86/events/amd/core.c", PAIRS),
+        ):
             path = self.folder / "linux" / name
             path.parent.mkdir(parents=True, exist_ok=True)
             path.write_text(text)
@@ -287,7 +373,10 @@ class KernelTables(KernelSource):
     def test_registers_that_events_share(self) -> None:
         """Either offcore register serves the events of both, and the others are one each."""
         registers = find_sources(self.source(TABLE), "skl").registers
-        self.assertEqual([(sorted(each.codes), each.count) for each in registers], [([0x1B7, 0x1BB], 2), ([0x1CD], 1), ([0x1C6], 1)])
+        self.assertEqual(
+            [(sorted(each.codes), each.count) for each in registers],
+            [([0x1B7, 0x1BB], 2), ([0x1CD], 1), ([0x1C6], 1)],
+        )
 
     def test_events_that_exclude_the_other_thread(self) -> None:
         excluding = TABLE.replace("INTEL_EVENT_CONSTRAINT(0xcd", "INTEL_EXCLEVT_CONSTRAINT(0xcd")
@@ -295,7 +384,10 @@ class KernelTables(KernelSource):
             constraints = find_sources(self.source(table), "skl").constraints
             assert constraints is not None
             nothing = unit_file.NOTHING_FIXED
-            self.assertEqual([constraints.is_exclusive(code, nothing) for code in ((0xCD, 0x01), (0xC0, 0x01))], [is_so, False])
+            self.assertEqual(
+                [constraints.is_exclusive(code, nothing) for code in ((0xCD, 0x01), (0xC0, 0x01))],
+                [is_so, False],
+            )
             self.assertEqual(constraints.places((0xCD, 0x01), nothing, 4), places({3}, set()))
 
     def test_fixed_counters_are_the_kernel_s(self) -> None:
@@ -310,7 +402,10 @@ class KernelTables(KernelSource):
         for table, cause in (
             ("", "no table intel_skl_event_constraints"),
             (TABLE.replace("0x1c0, 0x2", "0x1c0"), "a row that make_unit does not know"),
-            (TABLE.replace("INTEL_UEVENT", "INTEL_OTHER"), r"INTEL_OTHER_CONSTRAINT\(0x1c0, 0x2\): a row that"),
+            (
+                TABLE.replace("INTEL_UEVENT", "INTEL_OTHER"),
+                r"INTEL_OTHER_CONSTRAINT\(0x1c0, 0x2\): a row that",
+            ),
         ):
             with self.assertRaisesRegex(Fault, cause):
                 find_sources(self.source(table), "skl")
@@ -324,16 +419,25 @@ class SharedRegisters(KernelSource):
     def test_values_that_linux_takes(self) -> None:
         """Those within the bits of the register's row."""
         offcore, loads, frontend = find_sources(self.source(TABLE), "skl").registers
-        for group, code, value, is_taken in ((offcore, 0x1B7, 0x3FFFFF8FFF, True), (offcore, 0x1BB, 0x4000000000, False), (frontend, 0x1C6, 0x8, False), (offcore, 0x1C6, 0x8, True),
-                                             (loads, 0x1CD, 0x8, True)):
+        for group, code, value, is_taken in (
+            (offcore, 0x1B7, 0x3FFFFF8FFF, True), (offcore, 0x1BB, 0x4000000000, False),
+            (frontend, 0x1C6, 0x8, False), (offcore, 0x1C6, 0x8, True), (loads, 0x1CD, 0x8, True),
+        ):
             self.assertEqual(group.takes(code, value), is_taken, (code, value))
 
     def test_a_name_whose_value_linux_refuses(self) -> None:
         """OFFCORE_RESPONSE_0:L3_MISS of a Skylake has bits from 26 on."""
         few = TABLE, REGISTER_TABLE.replace("0x3fffff8fffull, RSP_0", "0x0000008fffull, RSP_0")
         for table, registers, is_refused in ((*few, True), (TABLE, REGISTER_TABLE, False)):
-            done = run_tool("make_unit", "skl", "--linux", self.source(table, registers), "--left-out")
-            self.assertEqual("OFFCORE_RESPONSE_0:L3_MISS: Linux refuses the value of its register\n" in done.stdout, is_refused, done.stderr)
+            done = run_tool(
+                "make_unit", "skl", "--linux", self.source(table, registers), "--left-out"
+            )
+            self.assertEqual(
+                "OFFCORE_RESPONSE_0:L3_MISS: Linux refuses the value of its register\n"
+                in done.stdout,
+                is_refused,
+                done.stderr,
+            )
 
     def test_as_many_counters_as_registers_where_others_need_them_least(self) -> None:
         group = Registers(frozenset({0x1B7, 0x1BB}), 2)
@@ -341,7 +445,13 @@ class SharedRegisters(KernelSource):
         own = [Need(0x1B7, value, everywhere) for value in (1, 2, 3)]
         others = [Need(0x1C0, None, places({0}, set())), Need(0x148, None, places({2, 3}, set()))]
         self.assertEqual([each.counters for each in keep([group], own + others, 4)], [{1, 2}])
-        self.assertEqual([each.counters for each in keep([group], [Need(0x1B7, 1, places({0, 3}, set())), *own], 4)], [{0, 3}])
+        self.assertEqual(
+            [
+                each.counters
+                for each in keep([group], [Need(0x1B7, 1, places({0, 3}, set())), *own], 4)
+            ],
+            [{0, 3}],
+        )
         for few in ([], own[:2], [Need(0x1B7, 1, everywhere)] * 3):
             self.assertEqual(keep([group], few + others, 4), (), few)
 
@@ -362,11 +472,28 @@ class RealProcessors(InFolder):
 
     def test_without_event_files(self) -> None:
         rows = self.rows("skl")
-        self.assertEqual(rows[2:7], ["COMPONENT,cpu,skl", "COUNTER,F0,48,F", "COUNTER,F1,48,F", "COUNTER,F2,48,F", "COUNTER,P0,48,P"])
-        self.assertRegex(rows[1], r"^# assumed: an event may stand on each programmable counter, .* all 8 .*--counters 4")
+        self.assertEqual(
+            rows[2:7],
+            [
+                "COMPONENT,cpu,skl", "COUNTER,F0,48,F", "COUNTER,F1,48,F", "COUNTER,F2,48,F",
+                "COUNTER,P0,48,P",
+            ],
+        )
+        self.assertRegex(
+            rows[1],
+            r"^# assumed: an event may stand on each programmable counter, .* all 8 .*--counters 4",
+        )
         everywhere = "P0 P1 P2 P3 P4 P5 P6 P7"
-        self.assertTrue(self.row(rows, "EVENT,INSTRUCTION_RETIRED").startswith(f"EVENT,INSTRUCTION_RETIRED,c0,{everywhere} F0,"))
-        self.assertTrue(self.row(rows, "EVENT,UNHALTED_CORE_CYCLES").startswith(f"EVENT,UNHALTED_CORE_CYCLES,3c,{everywhere} F1,"))
+        self.assertTrue(
+            self.row(rows, "EVENT,INSTRUCTION_RETIRED").startswith(
+                f"EVENT,INSTRUCTION_RETIRED,c0,{everywhere} F0,"
+            )
+        )
+        self.assertTrue(
+            self.row(rows, "EVENT,UNHALTED_CORE_CYCLES").startswith(
+                f"EVENT,UNHALTED_CORE_CYCLES,3c,{everywhere} F1,"
+            )
+        )
         reference = rows.index(self.row(rows, "EVENT,UNHALTED_REFERENCE_CYCLES"))
         self.assertTrue(rows[reference].startswith("EVENT,UNHALTED_REFERENCE_CYCLES,00,F2,"))
         self.assertTrue(rows[reference + 1].startswith("UMASK,0x03,03,dn,"))
@@ -379,50 +506,87 @@ class RealProcessors(InFolder):
     def test_names_that_are_left_out(self) -> None:
         rows = self.rows("skl")
         told = dict(line.split(": ", 1) for line in self.rows("skl", "--left-out"))
-        self.assertEqual(told["CPU_CLK_THREAD_UNHALTED:REF_XCLK_ANY"], "the code counts for any thread of a core, and a stream is one thread's own")
+        self.assertEqual(
+            told["CPU_CLK_THREAD_UNHALTED:REF_XCLK_ANY"],
+            "the code counts for any thread of a core, and a stream is one thread's own",
+        )
         listed = {name for row in rows if row.startswith("#   ") for name in row[4:].split()}
         self.assertLessEqual(told.keys(), listed)
         halves = [row for row in rows if row.startswith("# taken without its second register: ")]
         self.assertEqual(len(halves), 1)
         self.assertIn("FRONTEND_RETIRED:DSB_MISS", listed - told.keys())
-        self.assertEqual(listed & {"BR_INST_RETIRED:CONDITIONAL", "BRANCH_INSTRUCTIONS_RETIRED"}, set())
+        self.assertEqual(
+            listed & {"BR_INST_RETIRED:CONDITIONAL", "BRANCH_INSTRUCTIONS_RETIRED"}, set()
+        )
 
     def test_umasks_that_stay_for_a_preset_file(self) -> None:
-        presets = self.write("presets", "CPU,skl\nPRESET,PAPI_CA_SNP,NOT_DERIVED,OFFCORE_RESPONSE_0:SNP_ANY\nPRESET,PAPI_L2_TCW,NOT_DERIVED,L2_RQSTS:rfo_hit\n")
+        presets = self.write(
+            "presets",
+            (
+                "CPU,skl\nPRESET,PAPI_CA_SNP,NOT_DERIVED,OFFCORE_RESPONSE_0:SNP_ANY\n"
+                "PRESET,PAPI_L2_TCW,NOT_DERIVED,L2_RQSTS:rfo_hit\n"
+            ),
+        )
         names = "OFFCORE_RESPONSE_0:SNP_ANY", "L2_RQSTS:RFO_HIT"
         for words, reason in (((), "more than 16 umasks"), (("--presets", presets), None)):
             told = dict(line.split(": ", 1) for line in self.rows("skl", "--left-out", *words))
             self.assertEqual([told.get(name) for name in names], [reason, reason], words)
         rows = self.rows("skl", "--presets", presets)
         start = rows.index(self.row(rows, "EVENT,OFFCORE_RESPONSE_0")) + 1
-        umasks = [row.split(",")[1] for row in rows[start:] if row.startswith(("UMASK,", "EVENT,"))][:17]
+        umasks = [
+            row.split(",")[1] for row in rows[start:] if row.startswith(("UMASK,", "EVENT,"))
+        ][:17]
         self.assertIn("SNP_ANY", umasks[:16])
         self.assertEqual(umasks[16], "OFFCORE_RESPONSE_1")
 
     def test_an_edge_is_part_of_a_umask(self) -> None:
         rows = self.rows("skl")
         place = rows.index(self.row(rows, "UMASK,MS_SWITCHES"))
-        self.assertEqual((rows[place].split(",")[2], rows[place + 1]), ("30", "UMASK_MODIFIERS,e,1"))
+        self.assertEqual(
+            (rows[place].split(",")[2], rows[place + 1]), ("30", "UMASK_MODIFIERS,e,1")
+        )
 
     def test_umasks_that_may_stand_together(self) -> None:
-        """None of an event of which libpfm4 combines no two, and each of one of which it combines all."""
+        """None of an event of which libpfm4 combines no two, and each of one of which it combines
+        all."""
         rows = self.rows("skl")
         for name, flags in (("HLE_RETIRED", "n" * 8), ("L2_LINES_IN", "-" * 2)):
             after = rows[rows.index(self.row(rows, f"EVENT,{name}")) + 1 :]
-            umasks = [row.split(",")[3].replace("d", "") or "-" for row in after[: [row.startswith("EVENT,") for row in after].index(True)] if row.startswith("UMASK,")]
+            umasks = [
+                row.split(",")[3].replace("d", "") or "-"
+                for row in after[: [row.startswith("EVENT,") for row in after].index(True)]
+                if row.startswith("UMASK,")
+            ]
             self.assertEqual("".join(umasks), flags, name)
 
     def test_with_event_files(self) -> None:
         rows = self.rows("skl", "--width", "16", "--events", SAMPLE)
-        self.assertRegex(rows[[row.startswith("# counters: ") for row in rows].index(True)], r"^# counters: 10 of [0-9]{3} codes have theirs in the event files$")
-        self.assertEqual([row for row in rows if row.startswith("COUNTER")][2:4], ["COUNTER,F2,16,F", "COUNTER,P0,16,P"])
+        self.assertRegex(
+            rows[[row.startswith("# counters: ") for row in rows].index(True)],
+            r"^# counters: 10 of [0-9]{3} codes have theirs in the event files$",
+        )
+        self.assertEqual(
+            [row for row in rows if row.startswith("COUNTER")][2:4],
+            ["COUNTER,F2,16,F", "COUNTER,P0,16,P"],
+        )
         self.assertNotIn("hyperthreading", rows[1])  # the files say which counters there are
-        self.assertTrue(self.row(rows, "EVENT,INST_RETIRED").startswith("EVENT,INST_RETIRED,c0,P0 P1 P2 P3 F0,"))
-        self.assertTrue(self.row(rows, "EVENT,L1D_PEND_MISS").startswith("EVENT,L1D_PEND_MISS,48,P0 P1 P2 P3,"))
+        self.assertTrue(
+            self.row(rows, "EVENT,INST_RETIRED").startswith("EVENT,INST_RETIRED,c0,P0 P1 P2 P3 F0,")
+        )
+        self.assertTrue(
+            self.row(rows, "EVENT,L1D_PEND_MISS").startswith("EVENT,L1D_PEND_MISS,48,P0 P1 P2 P3,")
+        )
         instructions = rows[rows.index(self.row(rows, "EVENT,INST_RETIRED")) :]
-        total = next(number for number, row in enumerate(instructions) if row.startswith("UMASK,TOTAL_CYCLES,"))
-        self.assertEqual(instructions[total + 1 : total + 3], ["UMASK_COUNTERS,P0 P2 P3", "UMASK_MODIFIERS,i,10"])
-        for umask, more in (("PENDING", ["UMASK_COUNTERS,P2"]), ("PREC_DIST", ["UMASK_COUNTERS,P1"])):
+        total = next(
+            number for number, row in enumerate(instructions)
+            if row.startswith("UMASK,TOTAL_CYCLES,")
+        )
+        self.assertEqual(
+            instructions[total + 1 : total + 3], ["UMASK_COUNTERS,P0 P2 P3", "UMASK_MODIFIERS,i,10"]
+        )
+        for umask, more in (
+            ("PENDING", ["UMASK_COUNTERS,P2"]), ("PREC_DIST", ["UMASK_COUNTERS,P1"]),
+        ):
             place = rows.index(self.row(rows, f"UMASK,{umask}")) + 1
             self.assertEqual(rows[place : place + len(more)], more)
 
@@ -430,68 +594,122 @@ class RealProcessors(InFolder):
         linux = KernelTables.source(self, TABLE)
         rows = self.rows("skl", "--linux", linux)
         self.assertIn("on the counters that the kernel's table allows; all 4 programmable", rows[1])
-        self.assertTrue(self.row(rows, "EVENT,INST_RETIRED").startswith("EVENT,INST_RETIRED,c0,P0 P1 P2 P3 F0,"))
-        self.assertTrue(self.row(rows, "EVENT,MEM_TRANS_RETIRED").startswith("EVENT,MEM_TRANS_RETIRED,cd,P3,"))
+        self.assertTrue(
+            self.row(rows, "EVENT,INST_RETIRED").startswith("EVENT,INST_RETIRED,c0,P0 P1 P2 P3 F0,")
+        )
+        self.assertTrue(
+            self.row(rows, "EVENT,MEM_TRANS_RETIRED").startswith("EVENT,MEM_TRANS_RETIRED,cd,P3,")
+        )
         self.assertIn("UMASK_COUNTERS,P1", rows[rows.index(self.row(rows, "UMASK,PREC_DIST")) + 1])
 
     def test_linux_goes_by_its_table_and_documents_by_more(self) -> None:
         """The sample puts L1D_PEND_MISS:PENDING on counter 2, of which the table says nothing."""
         linux = KernelTables.source(self, TABLE)
-        for words, more, said in (((), [], "kernel's table allows"), (("--documents",), ["UMASK_COUNTERS,P2"], "the kernel's table and the event files allow")):
+        for words, more, said in (
+            ((), [], "kernel's table allows"),
+            (
+                ("--documents",), ["UMASK_COUNTERS,P2"],
+                "the kernel's table and the event files allow",
+            ),
+        ):
             rows = self.rows("skl", "--linux", linux, *words)
             self.assertIn(said, rows[1])
             place = rows.index(self.row(rows, "UMASK,PENDING")) + 1
-            self.assertEqual([row for row in rows[place : place + 1] if row.startswith("UMASK_COUNTERS")], more)
+            self.assertEqual(
+                [row for row in rows[place : place + 1] if row.startswith("UMASK_COUNTERS")], more
+            )
 
     def test_events_that_share_registers(self) -> None:
-        """Two registers of 44 values, and one of 10: as many counters. Three names of INST_RETIRED need counter 1 by the table, and the two of MEM_TRANS_RETIRED 3."""
+        """Two registers of 44 values, and one of 10: as many counters. Three names of INST_RETIRED
+        need counter 1 by the table, and the two of MEM_TRANS_RETIRED 3."""
         rows = self.rows("skl", "--linux", KernelTables.source(self, TABLE))
-        self.assertEqual([self.row(rows, f"EVENT,OFFCORE_RESPONSE_{number}").split(",")[3] for number in (0, 1)], ["P0 P2", "P0 P2"])
+        self.assertEqual(
+            [self.row(rows, f"EVENT,OFFCORE_RESPONSE_{number}").split(",")[3] for number in (0, 1)],
+            ["P0 P2", "P0 P2"],
+        )
         self.assertEqual(self.row(rows, "EVENT,FRONTEND_RETIRED").split(",")[3], "P3")
         kept = [row for row in rows if row.startswith("# kept to ")]
-        self.assertEqual([row.partition(",")[0] for row in kept], ["# kept to P3: 10 names of FRONTEND_RETIRED", "# kept to P0 P2: 52 names of OFFCORE_RESPONSE_0 and OFFCORE_RESPONSE_1"])
+        self.assertEqual(
+            [row.partition(",")[0] for row in kept],
+            [
+                "# kept to P3: 10 names of FRONTEND_RETIRED",
+                "# kept to P0 P2: 52 names of OFFCORE_RESPONSE_0 and OFFCORE_RESPONSE_1",
+            ],
+        )
 
     def test_what_a_unit_cannot_say(self) -> None:
-        excluding = KernelTables.source(self, TABLE.replace("INTEL_EVENT_CONSTRAINT(0xcd", "INTEL_EXCLEVT_CONSTRAINT(0xcd"))
-        said = "MEM_TRANS_RETIRED Linux lets a thread of a core with hyperthreading count on 2 of its 4 programmable counters"
+        excluding = KernelTables.source(
+            self, TABLE.replace("INTEL_EVENT_CONSTRAINT(0xcd", "INTEL_EXCLEVT_CONSTRAINT(0xcd")
+        )
+        said = (
+            "MEM_TRANS_RETIRED Linux lets a thread of a core with hyperthreading count on 2 of its "
+            "4 programmable counters"
+        )
         for words, is_said in (((), True), (("--no-hyperthreading",), False)):
             done = run_tool("make_unit", "skl", "--linux", excluding, *words)
             self.assertEqual(done.returncode, 0)
             head = " ".join(line[1:].strip() for line in done.stdout.splitlines()[:8])
-            self.assertEqual([said in text for text in (head, done.stderr)], [is_said, is_said], words)
+            self.assertEqual(
+                [said in text for text in (head, done.stderr)], [is_said, is_said], words
+            )
         done = run_tool("make_unit", "amd64_fam17h_zen2", "--linux", KernelTables.amd(self))
-        self.assertIn("make_unit: amd64_fam17h_zen2: each of 5 names of RETIRED_SSE_AVX_FLOPS takes two counters", done.stderr)
+        self.assertIn("make_unit: amd64_fam17h_zen2: each of 5 names of RETIRED_SSE_AVX_FLOPS "
+                      "takes two counters", done.stderr)
         self.assertIn("# not said: each of 5 names of RETIRED_SSE_AVX_FLOPS", done.stdout)
-        self.assertEqual(self.row(done.stdout.splitlines(), "EVENT,RETIRED_SSE_AVX_FLOPS").split(",")[3], "P0 P2 P4")
+        self.assertEqual(
+            self.row(done.stdout.splitlines(), "EVENT,RETIRED_SSE_AVX_FLOPS").split(",")[3],
+            "P0 P2 P4",
+        )
 
     def test_a_counter_that_the_watchdog_holds(self) -> None:
-        for pmu, counters in (("skl", "F0 F2 P0 P1 P2 P3 P4 P5 P6 P7"), ("amd64_fam17h_zen2", "P0 P1 P2 P3 P4")):
+        for pmu, counters in (
+            ("skl", "F0 F2 P0 P1 P2 P3 P4 P5 P6 P7"), ("amd64_fam17h_zen2", "P0 P1 P2 P3 P4"),
+        ):
             rows = self.rows(pmu, "--watchdog")
-            self.assertEqual(" ".join(row.split(",")[1] for row in rows if row.startswith("COUNTER")), counters)
+            self.assertEqual(
+                " ".join(row.split(",")[1] for row in rows if row.startswith("COUNTER")), counters
+            )
             self.assertIn("the kernel's watchdog holds a counter", rows[1])
         self.assertNotIn("F1", "".join(self.rows("skl", "--watchdog")).replace("0xF1", ""))
 
     def test_umasks_with_the_names_of_modifiers(self) -> None:
-        """Haswell has L2_LINES_IN:E. A default umask would make that name this umask with an edge, another event."""
+        """Haswell has L2_LINES_IN:E. A default umask would make that name this umask with an edge,
+        another event."""
         rows = self.rows("hsw")
         lines = rows[rows.index(self.row(rows, "EVENT,L2_LINES_IN")) + 1 :][:3]
-        self.assertEqual([row.split(",")[1:4] for row in lines], [["S", "02", "n"], ["ALL", "07", "-"], ["ANY", "07", "-"]])
+        self.assertEqual(
+            [row.split(",")[1:4] for row in lines],
+            [["S", "02", "n"], ["ALL", "07", "-"], ["ANY", "07", "-"]],
+        )
 
     def test_fewer_counters(self) -> None:
         rows = self.rows("skl", "--counters", "4")
-        self.assertEqual([row.split(",")[1] for row in rows if row.startswith("COUNTER")], ["F0", "F1", "F2", "P0", "P1", "P2", "P3"])
+        self.assertEqual(
+            [row.split(",")[1] for row in rows if row.startswith("COUNTER")],
+            ["F0", "F1", "F2", "P0", "P1", "P2", "P3"],
+        )
         self.assertIn("the first 4 of 8 programmable counters", rows[1])
         self.assertNotIn("hyperthreading", rows[1])
-        self.assertTrue(self.row(rows, "EVENT,INSTRUCTION_RETIRED").startswith("EVENT,INSTRUCTION_RETIRED,c0,P0 P1 P2 P3 F0,"))
+        self.assertTrue(
+            self.row(rows, "EVENT,INSTRUCTION_RETIRED").startswith(
+                "EVENT,INSTRUCTION_RETIRED,c0,P0 P1 P2 P3 F0,"
+            )
+        )
         rows = self.rows("skl", "--counters", "2", "--events", SAMPLE)
-        self.assertTrue(self.row(rows, "EVENT,INST_RETIRED").startswith("EVENT,INST_RETIRED,c0,P0 P1 F0,"))
+        self.assertTrue(
+            self.row(rows, "EVENT,INST_RETIRED").startswith("EVENT,INST_RETIRED,c0,P0 P1 F0,")
+        )
         self.assertFalse(any(row.startswith("UMASK,PENDING,") for row in rows))
         self.assertTrue(any(row.endswith(": the unit does not have its counters") for row in rows))
 
     def test_an_event_without_umasks_whose_counters_are_not_there(self) -> None:
-        far = self.write("far.json", '[{"EventName": "FAR", "EventCode": "0xC4", "Counter": "5", "BriefDescription": "On the sixth counter"}]')
+        far = self.write("far.json", '[{"EventName": "FAR", "EventCode": "0xC4", "Counter": "5", '
+                                     '"BriefDescription": "On the sixth counter"}]')
         for counters, reason in (("4", "the unit does not have its counters"), ("8", None)):
-            told = dict(line.split(": ", 1) for line in self.rows("skl", "--counters", counters, "--events", far, "--left-out"))
+            told = dict(
+                line.split(": ", 1)
+                for line in self.rows("skl", "--counters", counters, "--events", far, "--left-out")
+            )
             self.assertEqual(told.get("BRANCH_INSTRUCTIONS_RETIRED"), reason, counters)
 
     def test_a_umask_of_another_select_code(self) -> None:
@@ -500,15 +718,31 @@ class RealProcessors(InFolder):
 
     def test_modifiers_that_some_events_lack(self) -> None:
         account = Account()
-        for modifiers in ({"u", "k", "e", "i", "c"}, {"u", "k", "e", "i", "c", "t"}, {"u", "k"}, {"u"}, set()):
+        for modifiers in (
+            {"u", "k", "e", "i", "c"}, {"u", "k", "e", "i", "c", "t"}, {"u", "k"}, {"u"}, set(),
+        ):
             account.count_modifiers(modifiers)
-        self.assertEqual(account.lines(False), ["left out: modifier t of 1 event", "taken all the same: the modifiers u k e i c, of which libpfm4 lacks some for 3 events"])
+        self.assertEqual(
+            account.lines(False),
+            [
+                "left out: modifier t of 1 event",
+                (
+                    "taken all the same: the modifiers u k e i c, of which libpfm4 lacks some for "
+                    "3 events"
+                ),
+            ],
+        )
 
     def test_list(self) -> None:
-        self.assertRegex("\n".join(self.rows("--list")), r"(?m)^skl +core +\d+ events +8 \+ 3 counters +Intel Skylake$")
+        self.assertRegex(
+            "\n".join(self.rows("--list")),
+            r"(?m)^skl +core +\d+ events +8 \+ 3 counters +Intel Skylake$",
+        )
 
     def test_refusals(self) -> None:
-        for pmu, cause in (("nosuch", "libpfm4 knows no PMU nosuch"), ("perf", "no event of perf has a code")):
+        for pmu, cause in (
+            ("nosuch", "libpfm4 knows no PMU nosuch"), ("perf", "no event of perf has a code"),
+        ):
             done = run_tool("make_unit", pmu)
             self.assertEqual((done.returncode, done.stdout), (1, ""))
             self.assertIn(cause, done.stderr)
@@ -517,7 +751,9 @@ class RealProcessors(InFolder):
     def test_the_program_reads_the_unit(self) -> None:
         unit = self.write("skl.unit", "\n".join(self.rows("skl")) + "\n")
         done = run_program("papi_encode", "-U", unit, "skl::inst_retired", "LLC_MISSES:u")
-        self.assertEqual(done.stdout, "skl::INST_RETIRED:ANY_P 0x5300c0\nskl::LLC_MISSES:0x41:u 0x51412e\n")
+        self.assertEqual(
+            done.stdout, "skl::INST_RETIRED:ANY_P 0x5300c0\nskl::LLC_MISSES:0x41:u 0x51412e\n"
+        )
 
     @needs_program
     def test_all_encodings_agree(self) -> None:
@@ -528,6 +764,9 @@ class RealProcessors(InFolder):
 
 class Words(unittest.TestCase):
     def test_bad_words(self) -> None:
-        for words in ((), ("skl", "--list"), ("skl", "--width", "15"), ("skl", "--counters", "0"), ("skl", "--linux"), ("--nothing",)):
+        for words in (
+            (), ("skl", "--list"), ("skl", "--width", "15"), ("skl", "--counters", "0"),
+            ("skl", "--linux"), ("--nothing",),
+        ):
             self.assertEqual(run_tool("make_unit", *words).returncode, 2, words)
         self.assertEqual(run_tool("make_unit", "--help").returncode, 0)

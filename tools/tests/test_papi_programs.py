@@ -59,8 +59,13 @@ class Document(unittest.TestCase):
         self.assertTrue("`KISTALUB_STEP` of ten rounds" in self.text)
 
     def test_the_numbers(self) -> None:
-        others = [name for name, (verdict, _) in expectations().items() if verdict != UNBUILT and not name.endswith(".F")]
-        self.assertEqual(self.number(r"C tests (\d+) can be built") - len(others), self.number(r": (\d+) pass\."))
+        others = [
+            name for name, (verdict, _) in expectations().items()
+            if verdict != UNBUILT and not name.endswith(".F")
+        ]
+        self.assertEqual(
+            self.number(r"C tests (\d+) can be built") - len(others), self.number(r": (\d+) pass\.")
+        )
 
 
 class Sanitized(unittest.TestCase):
@@ -68,11 +73,19 @@ class Sanitized(unittest.TestCase):
 
     def test_a_report_of_the_library_alone(self) -> None:
         for kind in ("ERROR: AddressSanitizer", "WARNING: ThreadSanitizer"):
-            for place, report in ((f"{ROOT}/c/whole_file.c:12", f"{kind} at whole_file.c:12"), ("/other/test.c:12", "")):
-                self.assertEqual(papi_sanitized.report_of(f"said\n{kind}: race\n  #0 name {place}\n"), report)
+            for place, report in (
+                (f"{ROOT}/c/whole_file.c:12", f"{kind} at whole_file.c:12"),
+                ("/other/test.c:12", ""),
+            ):
+                self.assertEqual(
+                    papi_sanitized.report_of(f"said\n{kind}: race\n  #0 name {place}\n"), report
+                )
 
     def test_one_that_does_not_end_has_not_passed(self) -> None:
-        self.assertEqual([papi_sanitized.ended_in_time(Ran(status, "", "")) for status in (0, 1, -9)], ["", "", ""])
+        self.assertEqual(
+            [papi_sanitized.ended_in_time(Ran(status, "", "")) for status in (0, 1, -9)],
+            ["", "", ""],
+        )
         self.assertIn("no end in time", papi_sanitized.ended_in_time(Ran(None, "", "")))
 
 
@@ -94,7 +107,10 @@ class Stream(unittest.TestCase):
         lines = list(papi_stream.lines(self.unit, papi_stream.round_of(self.unit)))
         self.assertTrue(all_of(lines, LINE.fullmatch))
         happening = {tuple(line.split()[:4]) for line in lines}
-        for event in (("0", "c4", "02", "u"), ("0", "d0", "01", "k"), ("1", "10", "00", "u"), ("0", "2e", "00", "k")):
+        for event in (
+            ("0", "c4", "02", "u"), ("0", "d0", "01", "k"), ("1", "10", "00", "u"),
+            ("0", "2e", "00", "k"),
+        ):
             self.assertIn(event, happening)
 
     def test_rounds_are_alike(self) -> None:
@@ -116,7 +132,10 @@ class Counts(unittest.TestCase):
         self.assertIn("finds []", self.why("papi_command_line", "no counts\n"))
 
     def test_times(self) -> None:
-        line = "PAPI_get_real_cyc: min {0}.000  max 226.000 \nPAPI_get_virt_cyc: min {0}.000  max 9.000 \n"
+        line = (
+            "PAPI_get_real_cyc: min {0}.000  max 226.000 \n"
+            "PAPI_get_virt_cyc: min {0}.000  max 9.000 \n"
+        )
         self.assertEqual(self.why("papi_clockres", line.format(6)), "")
         self.assertNotEqual(self.why("papi_clockres", line.format(0)), "")
 

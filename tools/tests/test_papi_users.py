@@ -1,4 +1,5 @@
-"""checks/papi_users: what it takes for a right trace, and what it says of sources that are not there."""
+"""checks/papi_users: what it takes for a right trace, and what it says of sources that are not
+there."""
 
 from __future__ import annotations
 

@@ -64,7 +64,9 @@ class Places(InFolder):
         """Four lengths, and the variables that have them: each length in each place, and in no two
         environments beside the same other one."""
         for n, home in enumerate(LENGTHS):
-            caches, place, variables = (LENGTHS[(n * step + 1) % len(LENGTHS)] for step in (2, 3, 4))
+            caches, place, variables = (
+                LENGTHS[(n * step + 1) % len(LENGTHS)] for step in (2, 3, 4)
+            )
             yield (home, caches, place, variables), {
                 "PATH": os.environ["PATH"], "HOME": "/" + "h" * (home - 1),
                 "XDG_CACHE_HOME": self.named(self.cache(), caches),

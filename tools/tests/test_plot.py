@@ -19,13 +19,19 @@ LARGE = "range cold 0\nrange warm 10\n0x10 4\n0x14 6\nrange hot 85\n0x20 85\nout
 def texts(picture: str, kind: str) -> list[str]:
     """The texts of a class in the order in which they stand."""
     root = ElementTree.fromstring(picture)
-    return [element.text or "" for element in root.iter("{http://www.w3.org/2000/svg}text") if element.get("class") == kind]
+    return [
+        element.text or "" for element in root.iter("{http://www.w3.org/2000/svg}text")
+        if element.get("class") == kind
+    ]
 
 
 class Reading(unittest.TestCase):
     def test_a_profile(self) -> None:
         profile = read_profile(LARGE.splitlines())
-        self.assertEqual([(function.name, function.hits) for function in profile.functions], [("cold", 0), ("warm", 10), ("hot", 85)])
+        self.assertEqual(
+            [(function.name, function.hits) for function in profile.functions],
+            [("cold", 0), ("warm", 10), ("hot", 85)],
+        )
         self.assertEqual((profile.outside, profile.total), (5, 100))
         self.assertEqual(profile.functions[1].hottest(), Bucket(0x14, 6))
         self.assertIsNone(profile.functions[0].hottest())
@@ -56,7 +62,8 @@ class Picture(unittest.TestCase):
         self.assertEqual(texts(picture, "title"), ["Misses & more"])
         self.assertEqual(texts(picture, "name"), ["hot", "85.0 %", "warm", "10.0 %", "5.0 %"])
         self.assertEqual(texts(picture, "quiet"), [
-            "100 overflows, none in 1 other function", "100.0 % at 0x20", "60.0 % at 0x14", "outside the map", "",
+            "100 overflows, none in 1 other function", "100.0 % at 0x20", "60.0 % at 0x14",
+            "outside the map", "",
         ])
 
     def test_the_worked_example(self) -> None:
@@ -68,11 +75,16 @@ class Picture(unittest.TestCase):
 
     def test_the_longest_name_and_one_longer(self) -> None:
         names = ["n" * LONGEST_NAME, "m" * (LONGEST_NAME + 1)]
-        picture = self.draw("".join(f"range {name} 1\n0x1 1\n" for name in names) + "outside 0\ntotal 2\n")
-        self.assertEqual(texts(picture, "name")[::2], [names[0], "m" * (LONGEST_NAME - 1) + "\u2026"])
+        picture = self.draw(
+            "".join(f"range {name} 1\n0x1 1\n" for name in names) + "outside 0\ntotal 2\n"
+        )
+        self.assertEqual(
+            texts(picture, "name")[::2], [names[0], "m" * (LONGEST_NAME - 1) + "\u2026"]
+        )
 
     def test_the_most_bars(self) -> None:
-        """All have bars up to the limit. Behind it the others share one, which stands before what is outside."""
+        """All have bars up to the limit. Behind it the others share one, which stands before what
+        is outside."""
         for many, last in ((MOST_BARS, f"f{MOST_BARS - 1}"), (MOST_BARS + 1, "1 other function")):
             rows = "".join(f"range f{number} 1\n{number:#x} 1\n" for number in range(many))
             picture = self.draw(f"{rows}outside 0\ntotal {many}\n")
@@ -80,7 +92,9 @@ class Picture(unittest.TestCase):
             self.assertEqual(picture.count("<rect"), 1 + 2 * min(many, MOST_BARS + 1))
 
     def test_many_functions_and_long_names(self) -> None:
-        rows = "".join(f"range {'n' * 40}{number} 1\n{number:#x} 1\n" for number in range(MOST_BARS + 5))
+        rows = "".join(
+            f"range {'n' * 40}{number} 1\n{number:#x} 1\n" for number in range(MOST_BARS + 5)
+        )
         picture = self.draw(f"{rows}outside 0\ntotal {MOST_BARS + 5}\n")
         self.assertIn("5 other functions", texts(picture, "quiet"))
         self.assertLess(len(picture), 60_000)
@@ -88,18 +102,25 @@ class Picture(unittest.TestCase):
     def test_refusals(self) -> None:
         done = run_tool("plot", text="words\n")
         self.assertEqual((done.returncode, done.stdout), (1, ""))
-        self.assertEqual(done.stderr, "plot: standard input: line 1: not a line of papi_profil's output\n")
+        self.assertEqual(
+            done.stderr, "plot: standard input: line 1: not a line of papi_profil's output\n"
+        )
         self.assertEqual(run_tool("plot", "file").returncode, 2)
         self.assertEqual(run_tool("plot", "--help").returncode, 0)
 
     def test_the_picture_of_the_readme(self) -> None:
         folder = ROOT / "examples/profile"
         title = "Cache misses of product.c, one overflow every 256"
-        self.assertEqual(self.draw((folder / "product.profile").read_text(), "--title", title), (folder / "product.svg").read_text())
+        self.assertEqual(
+            self.draw((folder / "product.profile").read_text(), "--title", title),
+            (folder / "product.svg").read_text(),
+        )
 
     def test_the_pictures_of_the_kernels(self) -> None:
         folder = ROOT / "examples/c"
-        titles = re.findall(r"^draw (\w+) \w+ '(.*)'$", (folder / "pictures").read_text(), re.MULTILINE)
+        titles = re.findall(
+            r"^draw (\w+) \w+ '(.*)'$", (folder / "pictures").read_text(), re.MULTILINE
+        )
         self.assertEqual([name for name, _ in titles], ["daxpy", "stencil", "hash_join", "sort"])
         for name, title in titles:
             drawn = self.draw((folder / f"{name}.profile").read_text(), "--title", title)

@@ -46,17 +46,24 @@ class Rows(InFolder):
     def test_bytes_that_are_no_text(self) -> None:
         (self.folder / "p").write_bytes(b"CPU,lab1\nEVENT,OWN\xff,NOT_DERIVED,lab::CYCLES\n")
         done = run_tool("preset_rows", "p", folder=self.folder)
-        self.assertEqual((done.returncode, done.stdout, done.stderr), (0, "CPU,lab1\nEVENT,OWN\ufffd,NOT_DERIVED,lab::CYCLES\n", ""))
+        self.assertEqual(
+            (done.returncode, done.stdout, done.stderr),
+            (0, "CPU,lab1\nEVENT,OWN\ufffd,NOT_DERIVED,lab::CYCLES\n", ""),
+        )
 
     def test_refusals(self) -> None:
         done = run_tool("preset_rows", "absent", folder=self.folder)
-        self.assertEqual((done.returncode, done.stderr), (1, "preset_rows: absent: No such file or directory\n"))
+        self.assertEqual(
+            (done.returncode, done.stderr), (1, "preset_rows: absent: No such file or directory\n")
+        )
         self.assertEqual(run_tool("preset_rows").returncode, 2)
         self.assertEqual(run_tool("preset_rows", "--help").returncode, 0)
 
     @needs_program
     def test_the_program_counts_them(self) -> None:
         written = self.write("p", WRITTEN)
-        done = run_program("papi_avail", "-U", str(ROOT / "examples/lab.unit"), "-P", written, "-C", "lab1", "-a")
+        done = run_program(
+            "papi_avail", "-U", str(ROOT / "examples/lab.unit"), "-P", written, "-C", "lab1", "-a"
+        )
         for name in ("FP_INS", "L1_DCA", "SP_OPS", "DP_OPS", "OWN"):
             self.assertRegex(done.stdout, rf"(?m)^{name} ")

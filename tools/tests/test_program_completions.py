@@ -1,4 +1,5 @@
-"""Completions of papi_count, papi_record, papi_compare and papi_plan: each option that the program knows, and what can stand behind it."""
+"""Completions of papi_count, papi_record, papi_compare and papi_plan: each option that the program
+knows, and what can stand behind it."""
 
 from __future__ import annotations
 

@@ -44,7 +44,8 @@ class Recorded(InFolder):
         source = self.write(
             "two.c",
             "#include <pthread.h>\nstatic void *nothing(void *x) { return x; }\n"
-            "int main(void) { pthread_t t; pthread_create(&t, 0, nothing, 0); return pthread_join(t, 0); }\n",
+            "int main(void) { pthread_t t; pthread_create(&t, 0, nothing, 0); return "
+            "pthread_join(t, 0); }\n",
         )
         program = str(self.folder / "two")
         self.assertEqual(os.system(f"cc -O1 -o '{program}' '{source}' -lpthread"), 0)

@@ -1,4 +1,5 @@
-"""tools/count: a handler of PAPI_overflow is called right behind the instruction that passes its threshold."""
+"""tools/count: a handler of PAPI_overflow is called right behind the instruction that passes its
+threshold."""
 
 from __future__ import annotations
 
@@ -63,7 +64,8 @@ class Handlers(Counted):
     """
 
     def test_a_handler_that_jumps_out(self) -> None:
-        """A loop takes 20,000 branches. The first is left after 10,000, and each later one passes two more thresholds, of which the second is at its end."""
+        """A loop takes 20,000 branches. The first is left after 10,000, and each later one passes
+        two more thresholds, of which the second is at its end."""
         for words in ((), (f"{self.library}/libkistalub.a",)):
             done = self.count(self.compile(self.LEFT, *words))
             self.assertEqual((done.stderr, done.returncode), ("", 0), words)
@@ -90,7 +92,13 @@ class Handlers(Counted):
             }
         """)
         program = str(self.folder / "throws")
-        subprocess.run(["c++", "-O1", f"-I{ROOT / 'include'}", "-o", program, source, f"-L{self.library}", "-lpapi"], check=True)
+        subprocess.run(
+            [
+                "c++", "-O1", f"-I{ROOT / 'include'}", "-o", program, source, f"-L{self.library}",
+                "-lpapi",
+            ],
+            check=True,
+        )
         done = self.count(program)
         self.assertEqual((done.stdout, done.stderr, done.returncode), ("15\n", "", 0))
 
@@ -99,7 +107,8 @@ class Handlers(Counted):
 @needs_command("cc", "a C compiler")
 @needs_library
 class Addresses(Counted):
-    """Each program says the places of its handler's addresses in a piece of code, as numbers of bytes, and the values of its events."""
+    """Each program says the places of its handler's addresses in a piece of code, as numbers of
+    bytes, and the values of its events."""
 
     PROGRAM = """
     __asm__(".text\\n.globl code\\ncode: %s\\n");
@@ -121,12 +130,17 @@ class Addresses(Counted):
     }
     """
 
-    def places(self, code: str, *words: str, count_words: tuple[str, ...] = ()) -> tuple[list[tuple[int, int]], list[int]]:
+    def places(
+        self, code: str, *words: str, count_words: tuple[str, ...] = ()
+    ) -> tuple[list[tuple[int, int]], list[int]]:
         """The vector and the place of each call of the handler, and the values."""
         done = self.count(*count_words, self.compile(self.PROGRAM % code), *words)
         self.assertEqual((done.stderr, done.returncode), ("", 0))
         calls, values = done.stdout.splitlines()
-        return [(int(vector), int(place)) for vector, place in (call.split(":") for call in calls.split())], [int(value) for value in values.split()]
+        return [
+            (int(vector), int(place))
+            for vector, place in (call.split(":") for call in calls.split())
+        ], [int(value) for value in values.split()]
 
     TURNS = "dec %rdi; nop; nop; nop; nop; nop; nop; nop; nop; jnz code; ret"
     STARTS = {0: 0, 11: 9, **{2 + number: number for number in range(1, 9)}}
@@ -159,26 +173,36 @@ class Addresses(Counted):
         code = "mov (%rsi), %al; mov %al, (%rsi); dec %rdi; jnz code; ret"
         calls, values = self.places(code, "6000", "MEMORY:LOADS:STORES", "301")
         self.assertEqual(len(calls), values[0] // 301)
-        self.assertEqual({(one, later) for (_, one), (_, later) in zip(calls, calls[1:])}, {(0, 2), (2, 0)})
+        self.assertEqual(
+            {(one, later) for (_, one), (_, later) in zip(calls, calls[1:])}, {(0, 2), (2, 0)}
+        )
 
     @needs_libpfm4
     def test_of_split_loads(self) -> None:
         """Each load needs the next line too, which the machine says when it happens."""
         unit = make_unit("skl", self.folder)
         code = "mov 61(%rsi), %rax; nop; nop; dec %rdi; jnz code; ret"
-        calls, values = self.places(code, "3000", "MEM_INST_RETIRED:SPLIT_LOADS", "300", count_words=("--unit", unit))
+        calls, values = self.places(
+            code, "3000", "MEM_INST_RETIRED:SPLIT_LOADS", "300", count_words=("--unit", unit)
+        )
         self.assertEqual((len(calls), values[0]), (10, 3000))
         self.assertEqual({place for _, place in calls}, {0})
 
     def test_within_an_instruction_that_repeats_itself(self) -> None:
         """It stands at the place 6, and stores a byte in each turn."""
-        calls, values = self.places("mov %rdi, %rcx; mov %rsi, %rdi; rep stosb; ret", "3000", "PAPI_SR_INS", "300")
+        calls, values = self.places(
+            "mov %rdi, %rcx; mov %rsi, %rdi; rep stosb; ret", "3000", "PAPI_SR_INS", "300"
+        )
         self.assertEqual(len(calls), values[0] // 300)
         self.assertEqual({place for _, place in calls}, {6})
 
     def test_of_two_events(self) -> None:
         """Each has its own, and at some places both are passed."""
-        calls, values = self.places(self.TURNS, "3000", "PAPI_TOT_INS", "3000", "PAPI_BR_TKN", "300")
+        calls, values = self.places(
+            self.TURNS, "3000", "PAPI_TOT_INS", "3000", "PAPI_BR_TKN", "300"
+        )
         for number, period in ((0, 3000), (1, 300)):
-            self.assertEqual(sum(vector >> number & 1 for vector, _ in calls), values[number] // period)
+            self.assertEqual(
+                sum(vector >> number & 1 for vector, _ in calls), values[number] // period
+            )
         self.assertEqual({place for vector, place in calls if vector & 2}, {11})

@@ -21,7 +21,9 @@ class Version(unittest.TestCase):
 
     def test_the_header_for_c(self) -> None:
         text = (ROOT / "include/kistalub.h").read_text(encoding="ascii")
-        self.assertEqual(re.findall(r'^#define KISTALUB_VERSION "(.*)"$', text, re.MULTILINE), [VERSION])
+        self.assertEqual(
+            re.findall(r'^#define KISTALUB_VERSION "(.*)"$', text, re.MULTILINE), [VERSION]
+        )
 
     def test_the_newest_part_of_the_changelog(self) -> None:
         text = (ROOT / "CHANGELOG.md").read_text(encoding="utf-8")
@@ -29,5 +31,7 @@ class Version(unittest.TestCase):
 
     def test_no_other_file_has_it(self) -> None:
         """The Python module and the file for pkg-config read VERSION."""
-        for path in (ROOT / "pyproject.toml", ROOT / "bin/install", *(ROOT / "python").rglob("*.py")):
+        for path in (
+            ROOT / "pyproject.toml", ROOT / "bin/install", *(ROOT / "python").rglob("*.py"),
+        ):
             self.assertNotIn(VERSION, path.read_text(encoding="utf-8"), path)
