@@ -1,10 +1,12 @@
 /* PAPI 7.0's interface over the modelled counters of kistalub.h, for C and C++.
  *
- * A program written for PAPI includes this file in place of PAPI's, and links libkistalub.a or the shared library. What is counted are
- * occurrences of a recorded stream: kistalub_init or the environment name it, and time goes on by kistalub_go or KISTALUB_STEP (kistalub.h).
+ * A program written for PAPI includes this file in place of PAPI's, and links libkistalub.a or the
+ * shared library. What is counted are occurrences of a recorded stream: kistalub_init or the
+ * environment name it, and time goes on by kistalub_go or KISTALUB_STEP (kistalub.h).
  *
- * Names, types and numbers are PAPI's, so a program that was built with PAPI's header runs over the shared library. docs/C_PROGRAMS.md says
- * of each function what it does here and what differs. This file and the sources of c/ are not proved. */
+ * Names, types and numbers are PAPI's, so a program that was built with PAPI's header runs over the
+ * shared library. docs/C_PROGRAMS.md says of each function what it does here and what differs. This
+ * file and the sources of c/ are not proved. */
 #ifndef _PAPI
 #define _PAPI
 
@@ -27,7 +29,8 @@ extern "C" {
 #include "papi_types.h"
 #include "papi_devices.h"
 
-#define PAPI_VERSION_NUMBER(maj, min, rev, inc) (((maj) << 24) | ((min) << 16) | ((rev) << 8) | (inc))
+#define PAPI_VERSION_NUMBER(maj, min, rev, inc) \
+    (((maj) << 24) | ((min) << 16) | ((rev) << 8) | (inc))
 #define PAPI_VERSION_MAJOR(x) (((x) >> 24) & 0xff)
 #define PAPI_VERSION_MINOR(x) (((x) >> 16) & 0xff)
 #define PAPI_VERSION_REVISION(x) (((x) >> 8) & 0xff)
@@ -39,17 +42,22 @@ extern "C" {
 /* What a code stands for. */
 #define IS_NATIVE(EventCode) (((EventCode) & PAPI_NATIVE_MASK) && !((EventCode) & PAPI_PRESET_MASK))
 #define IS_PRESET(EventCode) (((EventCode) & PAPI_PRESET_MASK) && !((EventCode) & PAPI_NATIVE_MASK))
-#define IS_USER_DEFINED(EventCode) (((EventCode) & PAPI_PRESET_MASK) && ((EventCode) & PAPI_NATIVE_MASK))
+#define IS_USER_DEFINED(EventCode) \
+    (((EventCode) & PAPI_PRESET_MASK) && ((EventCode) & PAPI_NATIVE_MASK))
 
-/* Each function has a line of what it does, the errors that are its own, and its page of PAPI's manual. Besides these a function that needs the library answers
- * PAPI_ENOINIT without one, one that needs memory PAPI_ENOMEM, one with a set PAPI_ENOEVST if there is none of the number, and one that opens the calling
- * thread's stream PAPI_ESYS if it can't be read. docs/C_PROGRAMS.md says what differs from PAPI. */
+/* Each function has a line of what it does, the errors that are its own, and its page of PAPI's
+ * manual. Besides these a function that needs the library answers PAPI_ENOINIT without one, one
+ * that needs memory PAPI_ENOMEM, one with a set PAPI_ENOEVST if there is none of the number, and
+ * one that opens the calling thread's stream PAPI_ESYS if it can't be read. docs/C_PROGRAMS.md says
+ * what differs from PAPI. */
 
 /* The library. */
 
-/* Begins the library, and answers the version: each whose major number is 7. PAPI_EINVAL; PAPI_ESYS if a file or a variable is faulty. PAPI_library_init(3) */
+/* Begins the library, and answers the version: each whose major number is 7. PAPI_EINVAL; PAPI_ESYS
+ * if a file or a variable is faulty. PAPI_library_init(3) */
 int PAPI_library_init(int version);
-/* Whether a library is begun, and whether with support of threads: bits. No errors. PAPI_is_initialized(3) */
+/* Whether a library is begun, and whether with support of threads: bits. No errors.
+ * PAPI_is_initialized(3) */
 int PAPI_is_initialized(void);
 /* Ends the library, with all sets of all threads. No errors. PAPI_shutdown(3) */
 void PAPI_shutdown(void);
@@ -64,7 +72,8 @@ int PAPI_set_debug(int level);
 
 /* Makes a set, which is PAPI_NULL before. PAPI_EINVAL, PAPI_ECOUNT. PAPI_create_eventset(3) */
 int PAPI_create_eventset(int *EventSet);
-/* Takes an empty set away, and makes it PAPI_NULL. PAPI_EINVAL, PAPI_EISRUN. PAPI_destroy_eventset(3) */
+/* Takes an empty set away, and makes it PAPI_NULL. PAPI_EINVAL, PAPI_EISRUN.
+ * PAPI_destroy_eventset(3) */
 int PAPI_destroy_eventset(int *EventSet);
 /* Takes all events out of a set. PAPI_EISRUN. PAPI_cleanup_eventset(3) */
 int PAPI_cleanup_eventset(int EventSet);
@@ -72,26 +81,31 @@ int PAPI_cleanup_eventset(int EventSet);
 int PAPI_assign_eventset_component(int EventSet, int cidx);
 /* The component of a set. PAPI_ENOCMP. PAPI_get_eventset_component(3) */
 int PAPI_get_eventset_component(int EventSet);
-/* Adds an event by its code. PAPI_ENOEVNT, PAPI_EISRUN, PAPI_EINVAL, PAPI_ECNFLCT, PAPI_ECOUNT. PAPI_add_event(3) */
+/* Adds an event by its code. PAPI_ENOEVNT, PAPI_EISRUN, PAPI_EINVAL, PAPI_ECNFLCT, PAPI_ECOUNT.
+ * PAPI_add_event(3) */
 int PAPI_add_event(int EventSet, int Event);
 /* Adds an event by its name. The same, and PAPI_EATTR. PAPI_add_named_event(3) */
 int PAPI_add_named_event(int EventSet, const char *EventName);
-/* Adds events. The same; a number above 0 is that of the events that were added before one was refused. PAPI_add_events(3) */
+/* Adds events. The same; a number above 0 is that of the events that were added before one was
+ * refused. PAPI_add_events(3) */
 int PAPI_add_events(int EventSet, int *Events, int number);
 /* Takes an event out by its code. PAPI_EISRUN, PAPI_EINVAL. PAPI_remove_event(3) */
 int PAPI_remove_event(int EventSet, int EventCode);
 /* Takes an event out by its name. PAPI_EISRUN, PAPI_EINVAL. PAPI_remove_named_event(3) */
 int PAPI_remove_named_event(int EventSet, const char *EventName);
-/* Takes events out. The same; a number above 0 is that of the events that were taken out before one was refused. PAPI_remove_events(3) */
+/* Takes events out. The same; a number above 0 is that of the events that were taken out before one
+ * was refused. PAPI_remove_events(3) */
 int PAPI_remove_events(int EventSet, int *Events, int number);
-/* The codes of a set's events as far as there is room, or with a number of 0 how many there are. PAPI_EINVAL. PAPI_list_events(3) */
+/* The codes of a set's events as far as there is room, or with a number of 0 how many there are.
+ * PAPI_EINVAL. PAPI_list_events(3) */
 int PAPI_list_events(int EventSet, int *Events, int *number);
 /* How many events a set has. PAPI_num_events(3) */
 int PAPI_num_events(int EventSet);
 /* The state of a set: bits. PAPI_EINVAL. PAPI_state(3) */
 int PAPI_state(int EventSet, int *status);
 
-/* Counting. Those that read let a step of time happen first: PAPI_ESYS if it meets a faulty line of the stream. */
+/* Counting. Those that read let a step of time happen first: PAPI_ESYS if it meets a faulty line of
+ * the stream. */
 
 /* Sets the counts to zero, and starts them. PAPI_EISRUN, PAPI_EINVAL. PAPI_start(3) */
 int PAPI_start(int EventSet);
@@ -120,9 +134,11 @@ int PAPI_get_opt(int option, PAPI_option_t *ptr);
 int PAPI_set_opt(int option, PAPI_option_t *ptr);
 /* What an option of a component is. PAPI_ECMP, PAPI_EINVAL. PAPI_get_cmp_opt(3) */
 int PAPI_get_cmp_opt(int option, PAPI_option_t *ptr, int cidx);
-/* The domain of the sets that are made from now on. PAPI_EINVAL, PAPI_ENOSUPP. PAPI_set_domain(3) */
+/* The domain of the sets that are made from now on. PAPI_EINVAL, PAPI_ENOSUPP.
+ * PAPI_set_domain(3) */
 int PAPI_set_domain(int domain);
-/* The same of the sets that are bound to a component. The same, PAPI_ENOCMP. PAPI_set_cmp_domain(3) */
+/* The same of the sets that are bound to a component. The same, PAPI_ENOCMP.
+ * PAPI_set_cmp_domain(3) */
 int PAPI_set_cmp_domain(int domain, int cidx);
 /* Takes PAPI_GRN_THR. PAPI_EINVAL. PAPI_set_granularity(3) */
 int PAPI_set_granularity(int granularity);
@@ -137,20 +153,27 @@ int PAPI_get_multiplex(int EventSet);
 
 /* Handlers and profiles. */
 
-/* Calls a handler each time an event has counted as much as a threshold, or with a threshold of 0 no longer. PAPI_EISRUN, PAPI_ENOEVNT, PAPI_EINVAL. PAPI_overflow(3) */
-int PAPI_overflow(int EventSet, int EventCode, int threshold, int flags, PAPI_overflow_handler_t handler);
-/* The places of the events whose bits a handler was given. PAPI_EINVAL. PAPI_get_overflow_event_index(3) */
+/* Calls a handler each time an event has counted as much as a threshold, or with a threshold of 0
+ * no longer. PAPI_EISRUN, PAPI_ENOEVNT, PAPI_EINVAL. PAPI_overflow(3) */
+int PAPI_overflow(int EventSet, int EventCode, int threshold, int flags,
+                  PAPI_overflow_handler_t handler);
+/* The places of the events whose bits a handler was given. PAPI_EINVAL.
+ * PAPI_get_overflow_event_index(3) */
 int PAPI_get_overflow_event_index(int EventSet, long long overflow_vector, int *array, int *number);
-/* Counts addresses in buckets at each threshold that an event passes. PAPI_EISRUN, PAPI_ENOEVNT, PAPI_EINVAL. PAPI_profil(3) */
-int PAPI_profil(void *buf, unsigned bufsiz, vptr_t offset, unsigned scale, int EventSet, int EventCode, int threshold, int flags);
+/* Counts addresses in buckets at each threshold that an event passes. PAPI_EISRUN, PAPI_ENOEVNT,
+ * PAPI_EINVAL. PAPI_profil(3) */
+int PAPI_profil(void *buf, unsigned bufsiz, vptr_t offset, unsigned scale, int EventSet,
+                int EventCode, int threshold, int flags);
 /* The same for several regions of addresses. The same. PAPI_sprofil(3) */
-int PAPI_sprofil(PAPI_sprofil_t *prof, int profcnt, int EventSet, int EventCode, int threshold, int flags);
+int PAPI_sprofil(PAPI_sprofil_t *prof, int profcnt, int EventSet, int EventCode, int threshold,
+                 int flags);
 
 /* Events by name and code. */
 
 /* The code of a name. PAPI_EINVAL, PAPI_ENOEVNT, PAPI_EATTR. PAPI_event_name_to_code(3) */
 int PAPI_event_name_to_code(const char *in, int *out);
-/* The name of a code, in PAPI_MAX_STR_LEN places. PAPI_EINVAL, PAPI_ENOEVNT, PAPI_EBUF. PAPI_event_code_to_name(3) */
+/* The name of a code, in PAPI_MAX_STR_LEN places. PAPI_EINVAL, PAPI_ENOEVNT, PAPI_EBUF.
+ * PAPI_event_code_to_name(3) */
 int PAPI_event_code_to_name(int EventCode, char *out);
 /* Whether an event can be counted. PAPI_ENOEVNT, PAPI_ENOTPRESET. PAPI_query_event(3) */
 int PAPI_query_event(int EventCode);
@@ -158,7 +181,8 @@ int PAPI_query_event(int EventCode);
 int PAPI_query_named_event(const char *EventName);
 /* What there is to tell of an event. PAPI_EINVAL, PAPI_ENOEVNT. PAPI_get_event_info(3) */
 int PAPI_get_event_info(int EventCode, PAPI_event_info_t *info);
-/* The event after a code, as the modifier says, or with PAPI_ENUM_FIRST the first one. PAPI_EINVAL, and PAPI_ENOEVNT after the last. PAPI_enum_event(3) */
+/* The event after a code, as the modifier says, or with PAPI_ENUM_FIRST the first one. PAPI_EINVAL,
+ * and PAPI_ENOEVNT after the last. PAPI_enum_event(3) */
 int PAPI_enum_event(int *EventCode, int modifier);
 /* The same in a component. The same, PAPI_ENOCMP. PAPI_enum_cmp_event(3) */
 int PAPI_enum_cmp_event(int *EventCode, int modifier, int cidx);
@@ -173,7 +197,8 @@ const PAPI_component_info_t *PAPI_get_component_info(int cidx);
 int PAPI_get_component_index(const char *name);
 /* The component of an event. PAPI_ENOEVNT. PAPI_get_event_component(3) */
 int PAPI_get_event_component(int EventCode);
-/* Disables a component before the library begins. PAPI_ENOINIT if it is begun, PAPI_ENOCMP. PAPI_disable_component(3) */
+/* Disables a component before the library begins. PAPI_ENOINIT if it is begun, PAPI_ENOCMP.
+ * PAPI_disable_component(3) */
 int PAPI_disable_component(int cidx);
 /* The same by its name. PAPI_disable_component_by_name(3) */
 int PAPI_disable_component_by_name(const char *name);
@@ -194,7 +219,8 @@ const PAPI_exe_info_t *PAPI_get_executable_info(void);
 const PAPI_shlib_info_t *PAPI_get_shared_lib_info(void);
 /* How much memory the process has. PAPI_EINVAL, PAPI_ESYS. PAPI_get_dmem_info(3) */
 int PAPI_get_dmem_info(PAPI_dmem_info_t *dest);
-/* The next type of devices: the processor is the only one. PAPI_EINVAL after it. PAPI_enum_dev_type(3) */
+/* The next type of devices: the processor is the only one. PAPI_EINVAL after it.
+ * PAPI_enum_dev_type(3) */
 int PAPI_enum_dev_type(int enum_modifier, void **handle);
 /* What there is to tell of a type. PAPI_EINVAL, PAPI_ENOSUPP. PAPI_get_dev_type_attr(3) */
 int PAPI_get_dev_type_attr(void *handle, PAPI_dev_type_attr_e attr, void *value);
@@ -218,7 +244,8 @@ long long PAPI_get_virt_usec(void);
 
 /* Threads, what they keep for the program, and its locks. */
 
-/* Takes a function that gives a thread's id. PAPI_EINVAL if there are threads already. PAPI_thread_init(3) */
+/* Takes a function that gives a thread's id. PAPI_EINVAL if there are threads already.
+ * PAPI_thread_init(3) */
 int PAPI_thread_init(unsigned long (*id_fn)(void));
 /* The id of the calling thread, or PAPI_EMISC. PAPI_thread_id(3) */
 unsigned long PAPI_thread_id(void);
@@ -226,9 +253,11 @@ unsigned long PAPI_thread_id(void);
 int PAPI_register_thread(void);
 /* Takes it off the list, up to its next call. PAPI_EMISC, PAPI_EISRUN. PAPI_unregister_thread(3) */
 int PAPI_unregister_thread(void);
-/* The ids of the threads, as far as there is room, and how many. PAPI_EINVAL. PAPI_list_threads(3) */
+/* The ids of the threads, as far as there is room, and how many. PAPI_EINVAL.
+ * PAPI_list_threads(3) */
 int PAPI_list_threads(unsigned long *tids, int *number);
-/* What a thread has kept, or with PAPI_TLS_ALL_THREADS all have. PAPI_EINVAL. PAPI_get_thr_specific(3) */
+/* What a thread has kept, or with PAPI_TLS_ALL_THREADS all have. PAPI_EINVAL.
+ * PAPI_get_thr_specific(3) */
 int PAPI_get_thr_specific(int tag, void **ptr);
 /* Keeps a pointer for the calling thread. PAPI_EINVAL. PAPI_set_thr_specific(3) */
 int PAPI_set_thr_specific(int tag, void *ptr);
@@ -246,11 +275,13 @@ int PAPI_flops_rate(int event, float *rtime, float *ptime, long long *flpops, fl
 /* Instructions a cycle. PAPI_ipc(3) */
 int PAPI_ipc(float *rtime, float *ptime, long long *ins, float *ipc);
 /* Occurrences of an event a cycle. PAPI_epc(3) */
-int PAPI_epc(int event, float *rtime, float *ptime, long long *ref, long long *core, long long *evt, float *epc);
+int PAPI_epc(int event, float *rtime, float *ptime, long long *ref, long long *core, long long *evt,
+             float *epc);
 /* Ends the calling thread's rate. PAPI_ENOEVNT if there is none. PAPI_rate_stop(3) */
 int PAPI_rate_stop(void);
 
-/* The high level: the events of PAPI_EVENTS counted in regions. After an error nothing more is counted: PAPI_EMISC. */
+/* The high level: the events of PAPI_EVENTS counted in regions. After an error nothing more is
+ * counted: PAPI_EMISC. */
 
 /* Begins a region. PAPI_EINVAL, PAPI_ENOMEM. PAPI_hl_region_begin(3) */
 int PAPI_hl_region_begin(const char *region);

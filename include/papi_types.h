@@ -1,4 +1,5 @@
-/* What PAPI's calls fill and take. papi.h includes this file. Members that the model has nothing to say of are 0 or empty. */
+/* What PAPI's calls fill and take. papi.h includes this file. Members that the model has nothing to
+ * say of are 0 or empty. */
 #ifndef KISTALUB_PAPI_TYPES_H
 #define KISTALUB_PAPI_TYPES_H
 
@@ -10,21 +11,24 @@
 typedef void *vptr_t;
 typedef unsigned long PAPI_thread_id_t;
 
-/* Called at an occurrence at which thresholds were passed: bit N of the vector stands for the event in place N. The address is the
- * occurrence's, and there is no context. */
-typedef void (*PAPI_overflow_handler_t)(int EventSet, void *address, long long overflow_vector, void *context);
+/* Called at an occurrence at which thresholds were passed: bit N of the vector stands for the event
+ * in place N. The address is the occurrence's, and there is no context. */
+typedef void (*PAPI_overflow_handler_t)(int EventSet, void *address, long long overflow_vector,
+                                        void *context);
 
 /* Called with the code of a refusal (PAPI_DEBUG). */
 typedef int (*PAPI_debug_handler_t)(int code);
 
-/* Pointers of all threads, for PAPI_get_thr_specific with PAPI_TLS_ALL_THREADS: in num the room and then how many there are. */
+/* Pointers of all threads, for PAPI_get_thr_specific with PAPI_TLS_ALL_THREADS: in num the room and
+ * then how many there are. */
 typedef struct _papi_all_thr_spec {
     int num;
     PAPI_thread_id_t *id;
     void **data;
 } PAPI_all_thr_spec_t;
 
-/* A piece of the program for PAPI_sprofil: its buckets, their size in bytes, where it begins, and 65536 for a bucket each 2 bytes. */
+/* A piece of the program for PAPI_sprofil: its buckets, their size in bytes, where it begins, and
+ * 65536 for a bucket each 2 bytes. */
 typedef struct _papi_sprofil {
     void *pr_base;
     unsigned pr_size;
@@ -131,8 +135,8 @@ typedef struct _papi_hw_info {
     int reserved[8];
 } PAPI_hw_info_t;
 
-/* An event: of a preset or user event that is available `derived` is its derived type, `postfix` its formula, and `code` and `name` have its
- * `count` native events. */
+/* An event: of a preset or user event that is available `derived` is its derived type, `postfix`
+ * its formula, and `code` and `name` have its `count` native events. */
 typedef struct event_info {
     unsigned int event_code;
     char symbol[PAPI_HUGE_STR_LEN];
