@@ -1,4 +1,5 @@
-/* The functions of papi.h that readings.c calls, by hand: a stream and event sets for each thread, and of the events three. */
+/* The functions of papi.h that readings.c calls, by hand: a stream and event sets for each thread,
+ * and of the events three. */
 #include "papi.h"
 #include "read_stream.h"
 #include <fcntl.h>
@@ -72,7 +73,8 @@ INLINE void count(void *to, const struct occurrence *o) {
     unsigned counts = (o->comp == 0) & !o->kernel;
     if (s == NULL) return;
     for (int i = 0; i < EVENTS; i++)
-        s->totals[i] += o->amount & (0u - (counts & (o->select == known[i].select) & ((o->umask & known[i].umask) == known[i].umask)));
+        s->totals[i] += o->amount & (0u - (counts & (o->select == known[i].select) &
+                                           ((o->umask & known[i].umask) == known[i].umask)));
 }
 
 int PAPI_read(int set, long long *values) {
@@ -84,7 +86,8 @@ int PAPI_read(int set, long long *values) {
 }
 
 int PAPI_stop(int set, long long *values) {
-    if (set_of(set) == NULL || own->running != set_of(set)) return set_of(set) ? PAPI_ENOTRUN : PAPI_ENOEVST;
+    if (set_of(set) == NULL || own->running != set_of(set))
+        return set_of(set) ? PAPI_ENOTRUN : PAPI_ENOEVST;
     int code = PAPI_read(set, values);
     own->running = NULL;
     return code;

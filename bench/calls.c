@@ -1,5 +1,6 @@
-/* A script by hand: calls UNIT SCRIPT STREAM [PRESETS]. Reads a unit, presets and a script of thread 0, carries the calls out in order over the stream, and
- * keeps the replies until the end, as papi_run does. Ends with 1 and a line at what it does not know: README.md says what that is. */
+/* A script by hand: calls UNIT SCRIPT STREAM [PRESETS]. Reads a unit, presets and a script of
+ * thread 0, carries the calls out in order over the stream, and keeps the replies until the end, as
+ * papi_run does. Ends with 1 and a line at what it does not know: README.md says what that is. */
 #include "read_stream.h"
 #include "tables.h"
 #include <fcntl.h>
@@ -89,7 +90,8 @@ static void compute(struct set *s) {
     for (int i = 0; i < s->event_count; i++) {
         const struct event *e = &s->events[i];
         uint64_t value = s->counts[e->natives[0]];
-        for (int k = 1; k < e->count; k++) value += e->subtracts ? 0 - s->counts[e->natives[k]] : s->counts[e->natives[k]];
+        for (int k = 1; k < e->count; k++)
+            value += e->subtracts ? 0 - s->counts[e->natives[k]] : s->counts[e->natives[k]];
         s->values[i] = (int64_t)value;
     }
 }
@@ -148,7 +150,8 @@ static void call_values(unsigned line, struct text call, struct set *s) {
     begin_reply(line, call);
     if (s->running) compute(s);
     if (is(call, "accum")) {
-        for (int i = 0; i < s->event_count; i++) s->sums[i] = (int64_t)((uint64_t)s->sums[i] + (uint64_t)s->values[i]);
+        for (int i = 0; i < s->event_count; i++)
+            s->sums[i] = (int64_t)((uint64_t)s->sums[i] + (uint64_t)s->values[i]);
         zero(s);
         put_values(s, s->sums);
         return;
@@ -162,7 +165,8 @@ static void call_values(unsigned line, struct text call, struct set *s) {
 
 /* Carries one line out, up to the end of its reply. */
 static void carry_out(unsigned line, struct text rest) {
-    struct text thread = next_word(&rest), call = next_word(&rest), first = next_word(&rest), second = next_word(&rest);
+    struct text thread = next_word(&rest), call = next_word(&rest), first = next_word(&rest),
+                second = next_word(&rest);
     if (!is(thread, "0") || rest.length != 0) fail("a line it does not know");
     if (is(call, "create") && first.length == 0) {
         call_create(line, call);

@@ -1,5 +1,6 @@
-/* Reads the common line at fixed places from both ends, without a branch, and finds newlines 64 bytes at a time.
- * If a machine has no SSE2, no line is common, and newlines are found byte by byte. */
+/* Reads the common line at fixed places from both ends, without a branch, and finds newlines 64
+ * bytes at a time. If a machine has no SSE2, no line is common, and newlines are found byte by
+ * byte. */
 #include <stddef.h>
 #include <stdint.h>
 #include <string.h>
@@ -39,7 +40,8 @@ INLINE __m128i at_most(__m128i v, int most) {
 /* The newlines among 64 bytes, a bit each. */
 INLINE uint64_t newlines_of(const unsigned char *p) {
     uint64_t found = 0;
-    for (int i = 0; i < 4; i++) found |= (uint64_t)bits(_mm_cmpeq_epi8(load(p + 16 * i), all('\n'))) << 16 * i;
+    for (int i = 0; i < 4; i++)
+        found |= (uint64_t)bits(_mm_cmpeq_epi8(load(p + 16 * i), all('\n'))) << 16 * i;
     return found;
 }
 
@@ -59,21 +61,26 @@ INLINE __m128i last_bytes(size_t n) {
     return load(window + n);
 }
 
-/* The functions below return 0 if all is good, and else another number: faults are gathered by `|`, without a branch on each. */
+/* The functions below return 0 if all is good, and else another number: faults are gathered by `|`,
+ * without a branch on each. */
 
 /* The n hexadecimal digits before `end`: 1 to 16. */
 INLINE unsigned hexadecimal_before(const unsigned char *end, size_t n, uint64_t *value) {
-    __m128i are_digits, keep = last_bytes(n & 31), v = _mm_and_si128(nibbles(load(end - 16), &are_digits), keep);
-    v = _mm_and_si128(_mm_or_si128(_mm_slli_epi16(v, 4), _mm_srli_epi16(v, 8)), _mm_set1_epi16(255));
+    __m128i are_digits, keep = last_bytes(n & 31),
+                        v = _mm_and_si128(nibbles(load(end - 16), &are_digits), keep);
+    v = _mm_and_si128(_mm_or_si128(_mm_slli_epi16(v, 4), _mm_srli_epi16(v, 8)),
+                      _mm_set1_epi16(255));
     *value = __builtin_bswap64((uint64_t)_mm_cvtsi128_si64(_mm_packus_epi16(v, v)));
     return (unsigned)(n - 1) >> 4 | bits(_mm_andnot_si128(are_digits, keep));
 }
 
 /* The n decimal digits before `end`: 1 to 10, without leading zeros. */
 INLINE unsigned decimal_before(const unsigned char *end, size_t n, uint64_t *value) {
-    __m128i text = _mm_xor_si128(load(end - 16), all('0')), keep = last_bytes(n & 31), v = _mm_and_si128(text, keep);
+    __m128i text = _mm_xor_si128(load(end - 16), all('0')), keep = last_bytes(n & 31),
+            v = _mm_and_si128(text, keep);
     unsigned others = bits(_mm_andnot_si128(at_most(text, 9), keep));
-    v = _mm_add_epi16(_mm_mullo_epi16(_mm_and_si128(v, _mm_set1_epi16(255)), _mm_set1_epi16(10)), _mm_srli_epi16(v, 8));
+    v = _mm_add_epi16(_mm_mullo_epi16(_mm_and_si128(v, _mm_set1_epi16(255)), _mm_set1_epi16(10)),
+                      _mm_srli_epi16(v, 8));
     v = _mm_madd_epi16(v, _mm_set1_epi32(1 << 16 | 100));
     v = _mm_madd_epi16(_mm_packs_epi32(v, v), _mm_set1_epi32(1 << 16 | 10000));
     uint64_t halves = (uint64_t)_mm_cvtsi128_si64(v);
@@ -81,7 +88,8 @@ INLINE unsigned decimal_before(const unsigned char *end, size_t n, uint64_t *val
     return others | (n - 1 > 9) | ((n != 1) & (end[-(ptrdiff_t)n] == '0'));
 }
 
-/* The 1 to 3 decimal digits at p up to a space, from 1 to 255 without leading zeros, and how many they are. */
+/* The 1 to 3 decimal digits at p up to a space, from 1 to 255 without leading zeros, and how many
+ * they are. */
 INLINE unsigned amount_at(const unsigned char *p, unsigned *amount, size_t *length) {
     uint32_t text;
     memcpy(&text, p, 4);
@@ -89,14 +97,16 @@ INLINE unsigned amount_at(const unsigned char *p, unsigned *amount, size_t *leng
     uint32_t spaces = (zero_at_space - 0x01010101u) & ~zero_at_space & 0x80808080u;
     unsigned width = (unsigned)__builtin_ctz(spaces | 0x80000000u) & 0x18;
     uint32_t keep = (1u << width) - 1, v = (text ^ 0x30303030u) & keep;
-    unsigned faults = (((v + 0x76767676u) | v) & 0x80808080u & keep) | (spaces == 0) | ((v & 255) == 0);
+    unsigned faults =
+        (((v + 0x76767676u) | v) & 0x80808080u & keep) | (spaces == 0) | ((v & 255) == 0);
     v <<= 24 - width;
     *amount = (v & 255) * 100 + (v >> 8 & 255) * 10 + (v >> 16);
     *length = width / 8;
     return faults | (*amount & ~255u);
 }
 
-/* The component, select code, umask and mode of a line, with a space after each. p is at the component's last digit. */
+/* The component, select code, umask and mode of a line, with a space after each. p is at the
+ * component's last digit. */
 INLINE unsigned head_at(const unsigned char *p, unsigned tens, struct occurrence *o) {
     __m128i are_digits, head = load(p);
     uint64_t v = (uint64_t)_mm_cvtsi128_si64(nibbles(head, &are_digits));
@@ -106,12 +116,14 @@ INLINE unsigned head_at(const unsigned char *p, unsigned tens, struct occurrence
     o->select = (unsigned)(v >> 12 & 0xf0) | (unsigned)(v >> 24 & 15);
     o->umask = (unsigned)(v >> 36 & 0xf0) | (unsigned)(v >> 48 & 15);
     unsigned spaces = bits(_mm_cmpeq_epi8(head, all(' ')));
-    return ((spaces & 0x292) ^ 0x292) | ((bits(are_digits) & 0x6d) ^ 0x6d) | (9 - 4 * tens - unit) >> 31 |
-           (mode ^ ('u' - (unsigned)o->kernel * ('u' - 'k')));
+    return ((spaces & 0x292) ^ 0x292) | ((bits(are_digits) & 0x6d) ^ 0x6d) |
+           (9 - 4 * tens - unit) >> 31 | (mode ^ ('u' - (unsigned)o->kernel * ('u' - 'k')));
 }
 
-/* Whether the line from p to end, with or without a carriage return, is a common one, which has an occurrence and no fault. */
-INLINE int common_line(const unsigned char *p, const unsigned char *end, int version, struct occurrence *o) {
+/* Whether the line from p to end, with or without a carriage return, is a common one, which has an
+ * occurrence and no fault. */
+INLINE int common_line(const unsigned char *p, const unsigned char *end, int version,
+                       struct occurrence *o) {
     size_t length;
     end -= end[-1] == '\r';
     unsigned tens = p[1] != ' ';
@@ -140,7 +152,8 @@ INLINE uint64_t newlines_of(const unsigned char *p) {
     return found;
 }
 
-INLINE int common_line(const unsigned char *p, const unsigned char *end, int version, struct occurrence *o) {
+INLINE int common_line(const unsigned char *p, const unsigned char *end, int version,
+                       struct occurrence *o) {
     (void)p, (void)end, (void)version, (void)o;
     return 0;
 }

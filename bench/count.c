@@ -1,5 +1,6 @@
-/* The work of papi_run and papi_profil by hand, for each row of bench/run over a stream: count KIND STREAM..
- * Each stream has a thread of its own. Prints what the replies of `run`, `read` and `stop` have after PAPI_OK, a line each, or the histogram. */
+/* The work of papi_run and papi_profil by hand, for each row of bench/run over a stream: count KIND
+ * STREAM.. Each stream has a thread of its own. Prints what the replies of `run`, `read` and `stop`
+ * have after PAPI_OK, a line each, or the histogram. */
 #include "read_stream.h"
 #include <fcntl.h>
 #include <pthread.h>
@@ -35,7 +36,8 @@ INLINE void count_nothing(void *to, const struct occurrence *o) {
     (void)to, (void)o;
 }
 
-/* INST_RETIRED, CYCLES and BR_INST:ALL of component 0, in user mode. Amounts are added under a mask: a processor cannot foresee which count. */
+/* INST_RETIRED, CYCLES and BR_INST:ALL of component 0, in user mode. Amounts are added under a
+ * mask: a processor cannot foresee which count. */
 
 INLINE unsigned under(unsigned amount, int counts) {
     return amount & (0u - (unsigned)counts);
@@ -71,7 +73,8 @@ INLINE void count_thresholds(void *to, const struct occurrence *o) {
     static const unsigned char events[256] = {[0xc0] = 1, [0x3c] = 2, [0xc4] = 3};
     struct work *w = to;
     unsigned event = events[o->select];
-    unsigned amount = under(o->amount, (o->comp == 0) & !o->kernel & ((event != 3) | (int)(o->umask & 1)));
+    unsigned amount =
+        under(o->amount, (o->comp == 0) & !o->kernel & ((event != 3) | (int)(o->umask & 1)));
     amount = under(amount, event != 0);
     w->totals[(event - 1) & 31] += amount;
     w->left[event] -= (int)amount;
@@ -88,7 +91,8 @@ static uint64_t wanted[2][4][32];
 
 static void prepare_alike(void) {
     for (unsigned umask = 0; umask < 4; umask++)
-        for (unsigned i = 0; i < 32; i++) wanted[i % 2][umask][i] = umask & (i / 2 % 3 + 1) ? UINT64_MAX : 0;
+        for (unsigned i = 0; i < 32; i++)
+            wanted[i % 2][umask][i] = umask & (i / 2 % 3 + 1) ? UINT64_MAX : 0;
 }
 
 INLINE void count_alike(void *to, const struct occurrence *o) {
@@ -102,10 +106,12 @@ INLINE void count_alike(void *to, const struct occurrence *o) {
 
 INLINE void count_one(void *to, const struct occurrence *o) {
     struct work *w = to;
-    w->totals[0] += under(o->amount, (o->comp == 0) & (o->select == 0xc0) & ((o->umask & 3) != 0) & !o->kernel);
+    w->totals[0] +=
+        under(o->amount, (o->comp == 0) & (o->select == 0xc0) & ((o->umask & 3) != 0) & !o->kernel);
 }
 
-/* Six events in two groups, which take turns of 1,000 ticks. In version 1 each occurrence is a tick. */
+/* Six events in two groups, which take turns of 1,000 ticks. In version 1 each occurrence is a
+ * tick. */
 
 INLINE void count_turns(void *to, const struct occurrence *o) {
     struct work *w = to;
@@ -180,9 +186,9 @@ static const struct kind {
     int (*read)(struct work *w);
     int values, sets;
 } kinds[] = {
-    {"nothing", read_nothing, 0, 0},         {"three", read_three, 3, 1},  {"branches", read_branches, 1, 1},
+    {"nothing", read_nothing, 0, 0}, {"three", read_three, 3, 1}, {"branches", read_branches, 1, 1},
     {"thresholds", read_thresholds, 3, 1},   {"alike", read_alike, 32, 1}, {"one", read_one, 1, 1},
-    {"turns", read_turns, 6, 1},             {"hits", read_hits, 0, 0},    {"components", read_components, 16, 16},
+    {"turns", read_turns, 6, 1}, {"hits", read_hits, 0, 0}, {"components", read_components, 16, 16},
 };
 
 static const struct kind *kind_of(const char *name) {
@@ -192,7 +198,8 @@ static const struct kind *kind_of(const char *name) {
 }
 
 static void print_values(const uint64_t *totals, int n) {
-    for (int i = 0; i < n; i++) printf("%llu%c", (unsigned long long)totals[i], i + 1 < n ? ' ' : '\n');
+    for (int i = 0; i < n; i++)
+        printf("%llu%c", (unsigned long long)totals[i], i + 1 < n ? ' ' : '\n');
 }
 
 static void print_work(const struct work *w) {
@@ -207,7 +214,8 @@ static void *do_work(void *argument) {
     int file = open(w->stream, O_RDONLY);
     if (file < 0) perror(w->stream);
     w->left_of_turn = SLICE;
-    for (int i = 0; i < 4; i++) w->left[i] = w->kind->read == read_hits ? SMALL_THRESHOLD : THRESHOLD;
+    for (int i = 0; i < 4; i++)
+        w->left[i] = w->kind->read == read_hits ? SMALL_THRESHOLD : THRESHOLD;
     w->status = file < 0 || begin_reading(&w->reader, file) < 0 || w->kind->read(w) < 0;
     if (w->kind->read == read_turns) estimate(w);
     return NULL;

@@ -1,5 +1,6 @@
-/* Writes a stream: generate LINES [SEED [KIND]]. KIND is `components`, with occurrences of 16 components, or `stamps`, which is of
- * version 2; else it is of version 1, with component 0 alone. The same bytes on every machine. */
+/* Writes a stream: generate LINES [SEED [KIND]]. KIND is `components`, with occurrences of 16
+ * components, or `stamps`, which is of version 2; else it is of version 1, with component 0 alone.
+ * The same bytes on every machine. */
 #include <stdint.h>
 #include <stdio.h>
 #include <stdlib.h>
@@ -15,8 +16,9 @@ int main(int argc, char **argv) {
     for (unsigned long i = 0; i < lines; i++) {
         x = x * 6364136223846793005u + 1442695040888963407u;
         unsigned a = (unsigned)(x >> 33);
-        printf("%u %s %s %c %u %06x", has_components ? a / 3960 / 4096 % 16 : 0, select[a % 5], (a / 5) % 2 ? "01" : "02",
-               (a / 10) % 4 ? 'u' : 'k', 1 + (a / 40) % 99, 0x400000 + (a / 3960) % 4096);
+        printf("%u %s %s %c %u %06x", has_components ? a / 3960 / 4096 % 16 : 0, select[a % 5],
+               (a / 5) % 2 ? "01" : "02", (a / 10) % 4 ? 'u' : 'k', 1 + (a / 40) % 99,
+               0x400000 + (a / 3960) % 4096);
         stamp += 1 + (a >> 3) % 3;
         if (has_stamps) printf(" %lu", stamp);
         putchar('\n');

@@ -1,5 +1,6 @@
-/* So many occurrences of each kind that has a code are handed over to a library in which a set of three events runs, so many times: handing_over TIMES AMOUNT. It
- * calls what c/live.c calls, in place of the tool's counts. */
+/* So many occurrences of each kind that has a code are handed over to a library in which a set of
+ * three events runs, so many times: handing_over TIMES AMOUNT. It calls what c/live.c calls, in
+ * place of the tool's counts. */
 #include "../c/live_thread.h"
 #include "../c/signals.h"
 #include "../c/thread.h"
@@ -12,7 +13,9 @@ static const char *const names[] = { "PAPI_TOT_INS", "PAPI_LD_INS", "PAPI_BR_TKN
 #define EVENTS (sizeof names / sizeof *names)
 
 static int begin(int *set) {
-    if (PAPI_library_init(PAPI_VER_CURRENT) != PAPI_VER_CURRENT || PAPI_create_eventset(set) != PAPI_OK) return 0;
+    if (PAPI_library_init(PAPI_VER_CURRENT) != PAPI_VER_CURRENT ||
+        PAPI_create_eventset(set) != PAPI_OK)
+        return 0;
     for (size_t i = 0; i < EVENTS; i++)
         if (PAPI_add_named_event(*set, names[i]) != PAPI_OK) return 0;
     return PAPI_start(*set) == PAPI_OK;

@@ -1,10 +1,15 @@
-/* Reads a stream: cuts it into lines, checks every field of every line, and hands each occurrence on. A line that is not a common one is read
- * field by field. */
+/* Reads a stream: cuts it into lines, checks every field of every line, and hands each occurrence
+ * on. A line that is not a common one is read field by field. */
 #include "common_line.h"
 #include <stdio.h>
 #include <unistd.h>
 
-enum { PIECE = 65536, LONGEST_LINE = 128, LARGEST_STREAM = 67108864, WORDS = (LONGEST_LINE + PIECE + 63) / 64 };
+enum {
+    PIECE = 65536,
+    LONGEST_LINE = 128,
+    LARGEST_STREAM = 67108864,
+    WORDS = (LONGEST_LINE + PIECE + 63) / 64
+};
 
 struct reader {
     int file, version, ended;
@@ -13,7 +18,8 @@ struct reader {
     uint64_t consumed;  /* occurrences so far */
     int64_t last_stamp; /* -1 before the first occurrence */
     size_t at, held;    /* the place of the next line, and the end of what is held */
-    size_t word, words; /* the newlines of what is held, 64 bytes a word; those of the lines before are taken away */
+    /* The newlines of what is held, 64 bytes a word; those of the lines before are taken away. */
+    size_t word, words;
     uint64_t newlines[WORDS];
     unsigned char margin[MARGIN], bytes[64 * WORDS + MARGIN];
 };
@@ -29,7 +35,8 @@ INLINE int hex(unsigned char c) {
     return digits[c] - 1;
 }
 
-/* A decimal number of at most `most` digits without leading zeros. Goes past it; -1 if there is none. */
+/* A decimal number of at most `most` digits without leading zeros. Goes past it; -1 if there is
+ * none. */
 INLINE int64_t decimal(const unsigned char **at, const unsigned char *end, int most) {
     const unsigned char *p = *at, *first = p;
     int64_t n = 0;
@@ -71,7 +78,8 @@ INLINE int counter(const unsigned char **at, const unsigned char *end, uint64_t 
     return 1;
 }
 
-INLINE int fields(const unsigned char *p, const unsigned char *end, int version, struct occurrence *o) {
+INLINE int fields(const unsigned char *p, const unsigned char *end, int version,
+                  struct occurrence *o) {
     int64_t comp = decimal(&p, end, 2);
     if (comp < 0 || comp > 15 || !space(&p, end)) return 0;
     int select = byte(&p, end);
@@ -109,8 +117,10 @@ static int bad_fields(const struct reader *r, const unsigned char *p, const unsi
     return bad(r, spaces == r->version + 4 ? "bad field" : "wrong number of fields");
 }
 
-/* Any line, which has `ended` with a newline or not. Returns 1 if it has an occurrence, 0 if it has none, and -1 if it is bad. */
-static int any_line(const struct reader *r, const unsigned char *p, const unsigned char *end, int ended, struct occurrence *o) {
+/* Any line, which has `ended` with a newline or not. Returns 1 if it has an occurrence, 0 if it has
+ * none, and -1 if it is bad. */
+static int any_line(const struct reader *r, const unsigned char *p, const unsigned char *end,
+                    int ended, struct occurrence *o) {
     if (end - p > LONGEST_LINE) return bad(r, "line too long");
     if (r->passed + (uint64_t)(end - r->bytes) > LARGEST_STREAM) return bad(r, "stream too long");
     if (ended && end > p && end[-1] == '\r') end--;
@@ -131,7 +141,8 @@ INLINE int take(struct reader *r, struct occurrence *o, int version, counting *c
     return 0;
 }
 
-/* Goes through the whole lines that are held, up to `last` occurrences. Returns -1 at a bad line. */
+/* Goes through the whole lines that are held, up to `last` occurrences. Returns -1 at a bad
+ * line. */
 INLINE int whole_lines(struct reader *r, uint64_t last, int version, counting *count, void *to) {
     size_t at = r->at, word = r->word;
     uint64_t newlines = word < r->words ? r->newlines[word] : 0;
@@ -139,12 +150,15 @@ INLINE int whole_lines(struct reader *r, uint64_t last, int version, counting *c
     while (status == 0 && r->consumed < last) {
         while (newlines == 0 && ++word < r->words) newlines = r->newlines[word];
         if (newlines == 0) break;
-        const unsigned char *from = r->bytes + at, *end = r->bytes + 64 * word + __builtin_ctzll(newlines);
+        const unsigned char *from = r->bytes + at,
+                            *end = r->bytes + 64 * word + __builtin_ctzll(newlines);
         struct occurrence o;
         newlines &= newlines - 1;
         at = (size_t)(end - r->bytes) + 1;
         r->line++;
-        int held = within && *from != '#' && common_line(from, end, version, &o) ? 1 : any_line(r, from, end, 1, &o);
+        int held = within && *from != '#' && common_line(from, end, version, &o)
+                       ? 1
+                       : any_line(r, from, end, 1, &o);
         status = held > 0 ? take(r, &o, version, count, to) : held;
     }
     r->at = at;
@@ -153,7 +167,8 @@ INLINE int whole_lines(struct reader *r, uint64_t last, int version, counting *c
     return status;
 }
 
-/* Reads a piece after what is left, which goes to the front, and finds its newlines. Returns its length, or -1. */
+/* Reads a piece after what is left, which goes to the front, and finds its newlines. Returns its
+ * length, or -1. */
 static ssize_t read_piece(struct reader *r) {
     memmove(r->bytes, r->bytes + r->at, r->held - r->at);
     r->passed += r->at;
@@ -169,7 +184,8 @@ static ssize_t read_piece(struct reader *r) {
     return got;
 }
 
-/* Goes on to a further piece, or takes the rest as a line if there is none. Returns 1 if lines may follow, 0 at the end, and a status below 0. */
+/* Goes on to a further piece, or takes the rest as a line if there is none. Returns 1 if lines may
+ * follow, 0 at the end, and a status below 0. */
 INLINE int further(struct reader *r, int version, counting *count, void *to) {
     struct occurrence o;
     if (r->ended) return 0;
@@ -184,7 +200,8 @@ INLINE int further(struct reader *r, int version, counting *count, void *to) {
     return held > 0 ? take(r, &o, version, count, to) : held;
 }
 
-INLINE int consume_version(struct reader *r, uint64_t last, int version, counting *count, void *to) {
+INLINE int consume_version(struct reader *r, uint64_t last, int version, counting *count,
+                           void *to) {
     for (;;) {
         int status = whole_lines(r, last, version, count, to);
         if (status < 0 || r->consumed == last) return status;
@@ -192,17 +209,20 @@ INLINE int consume_version(struct reader *r, uint64_t last, int version, countin
     }
 }
 
-/* Consumes the next n occurrences, or as many as there are. Returns 0, -1 at the first bad line, which it names, or -2 if a read fails. */
+/* Consumes the next n occurrences, or as many as there are. Returns 0, -1 at the first bad line,
+ * which it names, or -2 if a read fails. */
 INLINE int consume(struct reader *r, uint64_t n, counting *count, void *to) {
     uint64_t last = n > UINT64_MAX - r->consumed ? UINT64_MAX : r->consumed + n;
-    return r->version == 2 ? consume_version(r, last, 2, count, to) : consume_version(r, last, 1, count, to);
+    return r->version == 2 ? consume_version(r, last, 2, count, to)
+                           : consume_version(r, last, 1, count, to);
 }
 
 /* Whether the first line is `version 2`, with or without a carriage return before its newline. */
 static int version_of(const struct reader *r) {
     static const char *const first[] = {"version 2\n", "version 2\r\n"};
     for (int i = 0; i < 2; i++)
-        if (r->held >= strlen(first[i]) && memcmp(r->bytes, first[i], strlen(first[i])) == 0) return 2;
+        if (r->held >= strlen(first[i]) && memcmp(r->bytes, first[i], strlen(first[i])) == 0)
+            return 2;
     return r->held == 9 && memcmp(r->bytes, "version 2", 9) == 0 ? 2 : 1;
 }
 

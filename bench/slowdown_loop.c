@@ -1,5 +1,6 @@
-/* A loop over 1 MiB with loads, stores, a branch that depends on the data, and a double: so many turns, 65536 steps each. With the number of a kind of our tool of Valgrind a
- * threshold of it is set, which is not passed. */
+/* A loop over 1 MiB with loads, stores, a branch that depends on the data, and a double: so many
+ * turns, 65536 steps each. With the number of a kind of our tool of Valgrind a threshold of it is
+ * set, which is not passed. */
 #include <stdint.h>
 #include <stdio.h>
 #include <stdlib.h>

@@ -1,4 +1,5 @@
-/* Units, presets and the words of a script for calls.c: a well-formed file is read, and what is not known ends the program. */
+/* Units, presets and the words of a script for calls.c: a well-formed file is read, and what is not
+ * known ends the program. */
 #include <stdint.h>
 #include <stdio.h>
 #include <stdlib.h>
@@ -17,7 +18,8 @@ struct native {
     uint8_t comp, select, umask, modes;
 };
 
-/* An event of a set: the places of its native events, which are added, or subtracted from the first. */
+/* An event of a set: the places of its native events, which are added, or subtracted from the
+ * first. */
 struct event {
     int natives[NATIVES_OF_PRESET], count, subtracts;
 };
@@ -56,7 +58,8 @@ static struct text next_word(struct text *rest) {
 
 static uint32_t number(struct text t) {
     uint64_t n = 0;
-    if (t.length == 0 || t.length > 10 || (t.length > 1 && t.at[0] == '0')) fail("a number at fault");
+    if (t.length == 0 || t.length > 10 || (t.length > 1 && t.at[0] == '0'))
+        fail("a number at fault");
     for (size_t i = 0; i < t.length; i++) {
         if (t.at[i] < '0' || t.at[i] > '9') fail("a number at fault");
         n = n * 10 + (uint64_t)(t.at[i] - '0');
@@ -166,7 +169,8 @@ static int find_native(struct text text, struct native *n) {
         *n = e->native;
         while (text.length != 0)
             if (!choose(e, n, cut(&text, ':'))) return 0;
-        if (n->umask == 0 && e->default_umask >= 0) n->umask = unit_umasks[e->first_umask + e->default_umask].bits;
+        if (n->umask == 0 && e->default_umask >= 0)
+            n->umask = unit_umasks[e->first_umask + e->default_umask].bits;
         return 1;
     }
     return 0;
@@ -199,9 +203,12 @@ static int find_event(struct text name, struct native *natives, int *subtracts) 
         struct text rest = presets[i].natives;
         int count = 0;
         *subtracts = is(presets[i].type, "DERIVED_SUB");
-        if (!*subtracts && !is(presets[i].type, "DERIVED_ADD") && !is(presets[i].type, "NOT_DERIVED")) return 0;
+        if (!*subtracts && !is(presets[i].type, "DERIVED_ADD") &&
+            !is(presets[i].type, "NOT_DERIVED"))
+            return 0;
         while (rest.length != 0)
-            if (count == NATIVES_OF_PRESET || !find_native(cut(&rest, ','), &natives[count++])) return 0;
+            if (count == NATIVES_OF_PRESET || !find_native(cut(&rest, ','), &natives[count++]))
+                return 0;
         return count;
     }
     return find_native(name, natives);

@@ -1,18 +1,19 @@
-// Makes calls of a program fail: memory that is not given, threads that are not started, and files that are not opened, read or written.
-// It is loaded before the C library (LD_PRELOAD), and told by the environment:
+// Makes calls of a program fail: memory that is not given, threads that are not started, and files
+// that are not opened, read or written. It is loaded before the C library (LD_PRELOAD), and told by
+// the environment:
 //   FAILING_KIND   alloc, alloc_from, io, io_from, short, short_from, empty, thread
 //   FAILING_AT     the number of the first call that fails, from 1
 //   FAILING_ERRNO  the error of a call of a file (EIO)
-//   FAILING_LOG    a file that gets the number of calls and, if some failed, the first of these: `alloc`, `thread`, `open NAME`,
+//   FAILING_LOG    a file that gets the number of calls and, if some failed, the first of these:
+//   `alloc`, `thread`, `open NAME`,
 //                  `read NAME`, or `write` and the descriptor
-// alloc: the call at that number gives no memory. io: that opening, read or write fails. short: that read or write moves one byte.
-// empty: that write takes nothing. thread: that thread is not started. `from`: that call and all later ones.
-// Beside these, each by itself:
+// alloc: the call at that number gives no memory. io: that opening, read or write fails. short:
+// that read or write moves one byte. empty: that write takes nothing. thread: that thread is not
+// started. `from`: that call and all later ones. Beside these, each by itself:
 //   FAILING_OPENINGS  the numbers of openings that fail, from 1, with blanks between
-//   FAILING_READS     `NAME BYTES`, and more with blanks between: reads of that file fail after so many bytes, or at its end
-//   FAILING_PIECE     the most bytes that a read gives
-//   FAILING_OUT       how many bytes standard output takes before its writes fail, and
-//   FAILING_ERR       standard error
+//   FAILING_READS     `NAME BYTES`, and more with blanks between: reads of that file fail after so
+//   many bytes, or at its end FAILING_PIECE     the most bytes that a read gives FAILING_OUT how
+//   many bytes standard output takes before its writes fail, and FAILING_ERR       standard error
 #define _GNU_SOURCE
 #include <dlfcn.h>
 #include <errno.h>
@@ -203,7 +204,8 @@ static void note_torn(int file, const char *name) {
     size_t bytes;
     int length;
     is_torn[file] = 0;
-    for (const char *next = failing_reads; sscanf(next, " %299s %zu%n", torn, &bytes, &length) == 2; next += length) {
+    for (const char *next = failing_reads; sscanf(next, " %299s %zu%n", torn, &bytes, &length) == 2;
+         next += length) {
         if (!strcmp(torn, name)) {
             is_torn[file] = 1;
             left[file] = bytes;
@@ -264,7 +266,8 @@ ssize_t read(int file, void *into, size_t size) {
     if (!is_known(file) || !is_torn[file]) {
         return syscall(SYS_read, file, into, size);
     }
-    ssize_t given = left[file] ? syscall(SYS_read, file, into, size < left[file] ? size : left[file]) : 0;
+    ssize_t given =
+        left[file] ? syscall(SYS_read, file, into, size < left[file] ? size : left[file]) : 0;
     if (given == 0) {
         errno = error;
         return -1;

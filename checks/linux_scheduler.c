@@ -1,7 +1,9 @@
 /* Asks Linux's own scheduler of events which sets of events a processor counts at once, and where.
  *
- * What decides is the kernel's source: checks/linux_scheduler.py takes the functions, tables and macros by their names out of arch/x86, and puts them into the
- * parts that are included below. Here stand only the types and calls that these need, as far as events that count and do not sample reach them. */
+ * What decides is the kernel's source: checks/linux_scheduler.py takes the functions, tables and
+ * macros by their names out of arch/x86, and puts them into the parts that are included below. Here
+ * stand only the types and calls that these need, as far as events that count and do not sample
+ * reach them. */
 #include <errno.h>
 #include <linux/perf_event.h>
 #include <stdbool.h>
@@ -71,8 +73,12 @@ static bool warn_on(bool is_so, const char *condition) {
     return is_so;
 }
 
-static bool test_bit(int bit, const unsigned long *mask) { return mask[bit / BITS_PER_LONG] >> bit % BITS_PER_LONG & 1; }
-static void __clear_bit(int bit, unsigned long *mask) { mask[bit / BITS_PER_LONG] &= ~(1UL << bit % BITS_PER_LONG); }
+static bool test_bit(int bit, const unsigned long *mask) {
+    return mask[bit / BITS_PER_LONG] >> bit % BITS_PER_LONG & 1;
+}
+static void __clear_bit(int bit, unsigned long *mask) {
+    mask[bit / BITS_PER_LONG] &= ~(1UL << bit % BITS_PER_LONG);
+}
 
 static int next_bit(const unsigned long *mask, int size, int from) {
     while (from < size && !test_bit(from, mask)) from++;
@@ -100,9 +106,20 @@ struct perf_event {
     void (*destroy)(struct perf_event *);
 };
 
-enum { PERF_ATTACH_TASK_DATA = 8, PERF_ATTACH_SCHED_CB = 32, PERF_EV_CAP_SIBLING = 4, PERF_PMU_CAP_EXTENDED_REGS = 64 };
+enum {
+    PERF_ATTACH_TASK_DATA = 8,
+    PERF_ATTACH_SCHED_CB = 32,
+    PERF_EV_CAP_SIBLING = 4,
+    PERF_PMU_CAP_EXTENDED_REGS = 64
+};
 enum { PERF_PMU_TXN_ADD = 1, PERF_REG_EXTENDED_MASK = 0, PERF_EVENT_FLAG_ARCH = 0xfffff };
-enum { MSR_OFFCORE_RSP_0 = 0x1a6, MSR_OFFCORE_RSP_1 = 0x1a7, MSR_PEBS_LD_LAT_THRESHOLD = 0x3f6, MSR_PEBS_FRONTEND = 0x3f7, PERF_CAP_METRICS_IDX = 15 };
+enum {
+    MSR_OFFCORE_RSP_0 = 0x1a6,
+    MSR_OFFCORE_RSP_1 = 0x1a7,
+    MSR_PEBS_LD_LAT_THRESHOLD = 0x3f6,
+    MSR_PEBS_FRONTEND = 0x3f7,
+    PERF_CAP_METRICS_IDX = 15
+};
 enum { X86_FEATURE_RTM, X86_FEATURE_HLE };
 #define MAX_PEBS_EVENTS 8
 
@@ -119,14 +136,22 @@ static void hardlockup_detector_perf_stop(void) {}
 static void hardlockup_detector_perf_restart(void) {}
 #define free_excl_cntrs(cpuc) ((void)0)
 
-static bool is_sampling_event(const struct perf_event *event) { return event->attr.sample_period != 0; }
-static bool has_branch_stack(const struct perf_event *event) { return event->attr.branch_sample_type != 0; }
+static bool is_sampling_event(const struct perf_event *event) {
+    return event->attr.sample_period != 0;
+}
+static bool has_branch_stack(const struct perf_event *event) {
+    return event->attr.branch_sample_type != 0;
+}
 static bool needs_branch_stack(const struct perf_event *event) { return has_branch_stack(event); }
 static int perf_allow_cpu(const struct perf_event_attr *attr) { return (void)attr, 0; }
 static unsigned get_ibs_caps(void) { return 0; }
 /* What only samples reach ends the program, so that nothing is decided here. */
-static long not_of_counting(void) { return fprintf(stderr, "linux_scheduler: an event does not count\n"), exit(2), 0; }
-static int amd_pmu_branch_hw_config_called(struct perf_event *event) { return (void)event, (int)not_of_counting(); }
+static long not_of_counting(void) {
+    return fprintf(stderr, "linux_scheduler: an event does not count\n"), exit(2), 0;
+}
+static int amd_pmu_branch_hw_config_called(struct perf_event *event) {
+    return (void)event, (int)not_of_counting();
+}
 #define x86_pmu_max_precise() ((int)not_of_counting())
 #define precise_br_compat(event) (not_of_counting() != 0)
 #define forward_event_to_ibs(event) ((int)not_of_counting())
@@ -141,25 +166,32 @@ static int amd_pmu_branch_hw_config_called(struct perf_event *event) { return (v
 #define for_each_sibling_event(sibling, leader) for ((sibling) = (leader); 0;)
 #define list_entry_is_head(sibling, list, member) (not_of_counting() != 0)
 
-#include "types.inc" /* of arch/x86/include/asm/perf_event.h, intel-family.h and arch/x86/events/perf_event.h */
+/* Of arch/x86/include/asm/perf_event.h, intel-family.h and arch/x86/events/perf_event.h. */
+#include "types.inc"
 
 static struct x86_pmu x86_pmu;
 struct event_constraint emptyconstraint, unconstrained;
-static struct event_constraint bts_constraint = EVENT_CONSTRAINT(0, 1ULL << INTEL_PMC_IDX_FIXED_BTS, 0);
+static struct event_constraint bts_constraint =
+    EVENT_CONSTRAINT(0, 1ULL << INTEL_PMC_IDX_FIXED_BTS, 0);
 /* It matches no event of libpfm4: code 0x1b00 with a fixed counter for guests. */
 static struct event_constraint vlbr_constraint =
-    __EVENT_CONSTRAINT(INTEL_FIXED_VLBR_EVENT, (1ULL << INTEL_PMC_IDX_FIXED_VLBR), FIXED_EVENT_FLAGS, 1, 0, PERF_X86_EVENT_LBR_SELECT);
+    __EVENT_CONSTRAINT(INTEL_FIXED_VLBR_EVENT, (1ULL << INTEL_PMC_IDX_FIXED_VLBR),
+                       FIXED_EVENT_FLAGS, 1, 0, PERF_X86_EVENT_LBR_SELECT);
 static bool is_x86_event(const struct perf_event *event) { return event->pmu == &pmu; }
-/* Of events that are sampled precisely; the events here are not (arch/x86/events/intel/ds.c looks at that first). */
+/* Of events that are sampled precisely; the events here are not (arch/x86/events/intel/ds.c looks
+ * at that first). */
 static struct event_constraint *intel_pebs_constraints(struct perf_event *event) {
     return event->attr.precise_ip ? (not_of_counting(), NULL) : NULL;
 }
 static bool check_msr(unsigned msr, u64 mask) { return (void)msr, (void)mask, true; }
 
-static struct event_constraint *x86_pmu_get_event_constraints_called(struct cpu_hw_events *cpuc, int index, struct perf_event *event) {
+static struct event_constraint *x86_pmu_get_event_constraints_called(struct cpu_hw_events *cpuc,
+                                                                     int index,
+                                                                     struct perf_event *event) {
     return x86_pmu.get_event_constraints(cpuc, index, event);
 }
-static void x86_pmu_put_event_constraints_called(struct cpu_hw_events *cpuc, struct perf_event *event) {
+static void x86_pmu_put_event_constraints_called(struct cpu_hw_events *cpuc,
+                                                 struct perf_event *event) {
     if (x86_pmu.put_event_constraints) x86_pmu.put_event_constraints(cpuc, event);
 }
 static void x86_pmu_start_scheduling_called(struct cpu_hw_events *cpuc) {
@@ -188,8 +220,10 @@ static void begin_intel(int counters, int fixed) {
     x86_pmu.num_counters_fixed = fixed;
     x86_pmu.intel_cap.perf_metrics = fixed > 3;
     choose_model();
-    intel_pmu_check_num_counters(&x86_pmu.num_counters, &x86_pmu.num_counters_fixed, &x86_pmu.intel_ctrl, (1ULL << fixed) - 1);
-    intel_pmu_check_event_constraints(x86_pmu.event_constraints, x86_pmu.num_counters, x86_pmu.num_counters_fixed, x86_pmu.intel_ctrl);
+    intel_pmu_check_num_counters(&x86_pmu.num_counters, &x86_pmu.num_counters_fixed,
+                                 &x86_pmu.intel_ctrl, (1ULL << fixed) - 1);
+    intel_pmu_check_event_constraints(x86_pmu.event_constraints, x86_pmu.num_counters,
+                                      x86_pmu.num_counters_fixed, x86_pmu.intel_ctrl);
     intel_pmu_check_extra_regs(x86_pmu.extra_regs);
 }
 
@@ -200,7 +234,8 @@ static void begin_amd(int counters) {
 }
 
 static void begin(int counters) {
-    unconstrained = (struct event_constraint)__EVENT_CONSTRAINT(0, (1ULL << counters) - 1, 0, counters, 0, 0);
+    unconstrained =
+        (struct event_constraint)__EVENT_CONSTRAINT(0, (1ULL << counters) - 1, 0, counters, 0, 0);
     x86_pmu.max_period = 1ULL << 31;
     run_quirks();
 }
@@ -225,12 +260,14 @@ static void delete_core(struct cpu_hw_events *core) {
 
 #define MOST_EVENTS 64
 
-static int open_event(struct perf_event *event, struct perf_event *leader, u64 config, u64 register_value) {
+static int open_event(struct perf_event *event, struct perf_event *leader, u64 config,
+                      u64 register_value) {
     memset(event, 0, sizeof *event);
     event->attr.type = PERF_TYPE_RAW;
     event->attr.exclude_user = !(config & ARCH_PERFMON_EVENTSEL_USR);
     event->attr.exclude_kernel = !(config & ARCH_PERFMON_EVENTSEL_OS);
-    event->attr.config = config & (X86_RAW_EVENT_MASK | ARCH_PERFMON_EVENTSEL_ANY | AMD64_EVENTSEL_EVENT);
+    event->attr.config =
+        config & (X86_RAW_EVENT_MASK | ARCH_PERFMON_EVENTSEL_ANY | AMD64_EVENTSEL_EVENT);
     event->attr.config1 = register_value;
     event->pmu = &pmu;
     event->group_leader = leader;
@@ -239,19 +276,23 @@ static int open_event(struct perf_event *event, struct perf_event *leader, u64 c
     return x86_pmu.hw_config(event);
 }
 
-/* `CODE:REGISTER` for each event, the first of which leads the others as PAPI opens them. The answer is the counters, those from 32 on being fixed. */
+/* `CODE:REGISTER` for each event, the first of which leads the others as PAPI opens them. The
+ * answer is the counters, those from 32 on being fixed. */
 static void answer(char *line, const u64 *held) {
     static struct perf_event events[MOST_EVENTS];
     struct cpu_hw_events *core = new_core();
     int assigned[MOST_EVENTS], count = 0, most = x86_pmu.num_counters + x86_pmu.num_counters_fixed;
     bool fits = true;
-    if (held && (open_event(events, events, *held, 0) || collect_event(core, events, most, 0))) exit(2);
+    if (held && (open_event(events, events, *held, 0) || collect_event(core, events, most, 0)))
+        exit(2);
     int first = held != NULL;
     count = first;
     for (char *word = strtok(line, " \n"); word && fits; word = strtok(NULL, " \n"), count++) {
         char *end;
-        u64 config = strtoull(word, &end, 16), value = *end == ':' ? strtoull(end + 1, NULL, 16) : 0;
-        fits = count < MOST_EVENTS && !open_event(events + count, events + first, config, value) && !collect_event(core, events + count, most, count);
+        u64 config = strtoull(word, &end, 16),
+            value = *end == ':' ? strtoull(end + 1, NULL, 16) : 0;
+        fits = count < MOST_EVENTS && !open_event(events + count, events + first, config, value) &&
+               !collect_event(core, events + count, most, count);
     }
     if (fits) fits = !x86_schedule_events(core, count, assigned);
     for (int i = first; fits && i < count; i++) printf("%s%d", i > first ? " " : "", assigned[i]);
@@ -259,7 +300,8 @@ static void answer(char *line, const u64 *held) {
     delete_core(core);
 }
 
-/* FAMILY MODEL COUNTERS FIXED THREADS [HELD]: family and model in hexadecimal digits, threads of a core, the code of an event that the kernel's watchdog counts. */
+/* FAMILY MODEL COUNTERS FIXED THREADS [HELD]: family and model in hexadecimal digits, threads of a
+ * core, the code of an event that the kernel's watchdog counts. */
 int main(int count, char **words) {
     static char line[1 << 16];
     if (count < 6) return 2;

@@ -1,4 +1,5 @@
-/* Prints what a library says of each of PAPI's presets: the code, the name, both descriptions and the kinds. */
+/* Prints what a library says of each of PAPI's presets: the code, the name, both descriptions and
+ * the kinds. */
 #include <papi.h>
 #include <stdio.h>
 
@@ -8,7 +9,8 @@ int main(void) {
     for (; answer == PAPI_OK; answer = PAPI_enum_event(&event, PAPI_ENUM_EVENTS)) {
         PAPI_event_info_t info;
         if (PAPI_get_event_info(event, &info) != PAPI_OK) return 2;
-        printf("%x %s|%s|%s|%x\n", (unsigned)event, info.symbol, info.short_descr, info.long_descr, info.event_type);
+        printf("%x %s|%s|%s|%x\n", (unsigned)event, info.symbol, info.short_descr, info.long_descr,
+               info.event_type);
     }
     return answer == PAPI_ENOEVNT ? 0 : 3;
 }

@@ -1,4 +1,5 @@
-/* The calls of a simulator of MPI programs: it counts the events of a list in what each process computes between two calls of MPI. */
+/* The calls of a simulator of MPI programs: it counts the events of a list in what each process
+ * computes between two calls of MPI. */
 #include <papi.h>
 #include <pthread.h>
 #include <stdio.h>

@@ -1,4 +1,5 @@
-/* All of PAPI's presets: each has PAPI's name, code, description and kind, and where the preset file has a user event of its meaning it counts. */
+/* All of PAPI's presets: each has PAPI's name, code, description and kind, and where the preset
+ * file has a user event of its meaning it counts. */
 #include "papi.h"
 #include "wanted.h"
 #include <string.h>
@@ -67,7 +68,9 @@ static void one(void) {
     PAPI_event_info_t info;
     int user;
     WANT(PAPI_get_event_info(PAPI_DP_OPS, &info), PAPI_OK);
-    WANT(strcmp(info.long_descr, "Floating point operations; optimized to count scaled double precision vector operations"), 0);
+    WANT(strcmp(info.long_descr, "Floating point operations; optimized to count scaled double "
+                                 "precision vector operations"),
+         0);
     WANT(strcmp(info.short_descr, "DP operations"), 0);
     WANT(strcmp(info.derived, "DERIVED_POSTFIX"), 0);
     WANT(info.event_type, PAPI_PRESET_BIT_INS | PAPI_PRESET_BIT_FP);
@@ -81,7 +84,8 @@ static void one(void) {
 
 /* The rates of floating point take the presets that PAPI names for them. */
 static void rates(void) {
-    static const int flips[] = { PAPI_FP_INS, PAPI_VEC_SP, PAPI_VEC_DP }, flops[] = { PAPI_FP_OPS, PAPI_SP_OPS, PAPI_DP_OPS };
+    static const int flips[] = { PAPI_FP_INS, PAPI_VEC_SP, PAPI_VEC_DP },
+                     flops[] = { PAPI_FP_OPS, PAPI_SP_OPS, PAPI_DP_OPS };
     float real, own, rate;
     long long events;
     for (int i = 0; i < 3; i++) {

@@ -1,4 +1,5 @@
-/* A program counts while it ends: in a function that is called at exit, and in one that is called after that. */
+/* A program counts while it ends: in a function that is called at exit, and in one that is called
+ * after that. */
 #include "papi.h"
 #include "wanted.h"
 

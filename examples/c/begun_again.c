@@ -1,4 +1,5 @@
-/* A library ends while a rate or regions are counted, and another one begins: these begin anew there, and leave the program's own sets alone. */
+/* A library ends while a rate or regions are counted, and another one begins: these begin anew
+ * there, and leave the program's own sets alone. */
 #define _DEFAULT_SOURCE
 #include "papi.h"
 #include "wanted.h"
@@ -79,7 +80,9 @@ static void look_at_output(void) {
     while (fgets(text, sizeof text, f)) regions += !!strstr(text, "\"INST_RETIRED\":\"1020\"");
     fclose(f);
     WANT(regions, 2);
-    WANT(unlink("papi_hl_output/rank_000000.json") + rmdir("papi_hl_output") + chdir("/") + rmdir(folder), 0);
+    WANT(unlink("papi_hl_output/rank_000000.json") + rmdir("papi_hl_output") + chdir("/") +
+             rmdir(folder),
+         0);
     puts("each counts its own");
 }
 

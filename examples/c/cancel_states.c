@@ -1,4 +1,5 @@
-/* A function of the program that is called in a call finds cancellation as the program has it, and so does the program if the function jumps out. */
+/* A function of the program that is called in a call finds cancellation as the program has it, and
+ * so does the program if the function jumps out. */
 #define _DEFAULT_SOURCE
 #include "papi.h"
 #include "wanted.h"

@@ -1,4 +1,5 @@
-/* A thread that is cancelled while it waits for a lock leaves the lock whole, and one that is cancelled while files are read or a line is written leaves the library whole. */
+/* A thread that is cancelled while it waits for a lock leaves the lock whole, and one that is
+ * cancelled while files are read or a line is written leaves the library whole. */
 #define _DEFAULT_SOURCE
 #include "papi.h"
 #include "wanted.h"

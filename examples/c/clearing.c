@@ -61,7 +61,8 @@ int main(void) {
     WANT(state_of(set), PAPI_STOPPED);
 
     /* a profile alone calls no handler that was there before */
-    WANT(PAPI_profil(buckets, sizeof buckets, 0, 2, set, inst, 256, PAPI_PROFIL_BUCKET_32), PAPI_OK);
+    WANT(PAPI_profil(buckets, sizeof buckets, 0, 2, set, inst, 256, PAPI_PROFIL_BUCKET_32),
+         PAPI_OK);
     WANT(state_of(set), PAPI_STOPPED | PAPI_OVERFLOWING | PAPI_PROFILING);
     WANT(PAPI_overflow(set, cycles, 300, 0, handler), PAPI_OK);
     count(set);
@@ -71,7 +72,8 @@ int main(void) {
     /* the threshold of the event is gone, and its profile with it */
     unsigned before = buckets[0];
     WANT(PAPI_profil(buckets, sizeof buckets, 0, 2, set, inst, 0, PAPI_PROFIL_BUCKET_32), PAPI_OK);
-    WANT(PAPI_profil(buckets, sizeof buckets, 0, 2, set, inst, 0, PAPI_PROFIL_BUCKET_32), PAPI_EINVAL);
+    WANT(PAPI_profil(buckets, sizeof buckets, 0, 2, set, inst, 0, PAPI_PROFIL_BUCKET_32),
+         PAPI_EINVAL);
     WANT(state_of(set), PAPI_STOPPED | PAPI_OVERFLOWING);
     WANT(PAPI_overflow(set, cycles, 0, 0, handler), PAPI_OK);
     WANT(state_of(set), PAPI_STOPPED);
@@ -81,7 +83,8 @@ int main(void) {
     WANT(PAPI_create_eventset(&set), PAPI_OK);
     WANT(PAPI_event_name_to_code("INST_RETIRED", &inst), PAPI_OK);
     WANT(PAPI_add_event(set, inst), PAPI_OK);
-    WANT(PAPI_profil(buckets, sizeof buckets, 0, 2, set, inst, 256, PAPI_PROFIL_BUCKET_32), PAPI_OK);
+    WANT(PAPI_profil(buckets, sizeof buckets, 0, 2, set, inst, 256, PAPI_PROFIL_BUCKET_32),
+         PAPI_OK);
     WANT(PAPI_overflow(set, inst, 300, 0, handler), PAPI_OK);
     WANT(PAPI_overflow(set, inst, 0, 0, handler), PAPI_OK);
     count(set);

@@ -16,7 +16,8 @@ int main(void) {
     WANT(PAPI_get_virt_usec() > 0, 1);
     WANT(PAPI_get_virt_nsec() > 0, 1);
     WANT(PAPI_get_virt_cyc() > 0, 1);
-    const long long before = PAPI_get_real_nsec(), cycles = PAPI_get_real_cyc(), after = PAPI_get_real_nsec();
+    const long long before = PAPI_get_real_nsec(), cycles = PAPI_get_real_cyc(),
+                    after = PAPI_get_real_nsec();
     WANT(before <= cycles && cycles <= after, 1); /* a cycle in a nanosecond */
     WANT(PAPI_is_initialized(), PAPI_NOT_INITED);
     puts("each clock is there");

@@ -1,5 +1,5 @@
-/* A code of an event is the process's: each thread may use what another one learned, in whatever order each learned its own. So is the number of a
- * set, which no other thread has. */
+/* A code of an event is the process's: each thread may use what another one learned, in whatever
+ * order each learned its own. So is the number of a set, which no other thread has. */
 #include "papi.h"
 #include "wanted.h"
 #include <pthread.h>
@@ -90,7 +90,8 @@ int main(void) {
     WANT(PAPI_destroy_eventset(&others[1]), PAPI_OK);
     WANT(PAPI_create_eventset(&others[1]), PAPI_OK);
     WANT(others[1], 1);
-    printf("%#x %#x %#x %#x\n", (unsigned)inst, (unsigned)cycles, (unsigned)loads, (unsigned)reference);
+    printf("%#x %#x %#x %#x\n", (unsigned)inst, (unsigned)cycles, (unsigned)loads,
+           (unsigned)reference);
     PAPI_shutdown();
     return 0;
 }

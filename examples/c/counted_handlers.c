@@ -1,4 +1,5 @@
-/* Under tools/count: a handler of a signal starts a set in the midst of another call, and the set counts from then on. */
+/* Under tools/count: a handler of a signal starts a set in the midst of another call, and the set
+ * counts from then on. */
 #define _DEFAULT_SOURCE
 #include "papi.h"
 #include "wanted.h"

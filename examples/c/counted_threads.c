@@ -1,4 +1,5 @@
-/* Under tools/count: threads end, one after the other, and leave no room for lines behind. Then the library ends. */
+/* Under tools/count: threads end, one after the other, and leave no room for lines behind. Then the
+ * library ends. */
 #include "papi.h"
 #include "wanted.h"
 #include <malloc.h>

@@ -1,5 +1,5 @@
-/* DAXPY, y = a x + y, under tools/count: what further elements cost, also with a stride of a line of
- * the cache. */
+/* DAXPY, y = a x + y, under tools/count: what further elements cost, also with a stride of a line
+ * of the cache. */
 #include "kernels.h"
 
 #define SIZE 8192
@@ -21,7 +21,8 @@ static void strided(int size) {
 }
 
 static void show(const char *name, counts made, long long elements) {
-    long long lines = 2 * MORE / STRIDE; /* of both arrays, and a few that are there still, or not */
+    /* Of both arrays, and a few that are there still, or not. */
+    long long lines = 2 * MORE / STRIDE;
     WANT(llabs(made.of[MISSES] - lines) <= 8, 1);
     printf("%s, %lld more elements: %lld loads, %lld stores, %lld operations, ", name, elements,
            made.of[LOADS], made.of[STORES], made.of[OPERATIONS]);

@@ -26,7 +26,8 @@ static void handler(int set, void *address, long long vector, void *context) {
     }
 }
 
-/* The call in which a handler ends the library answers PAPI_ENOINIT, also if the handler begins another one. */
+/* The call in which a handler ends the library answers PAPI_ENOINIT, also if the handler begins
+ * another one. */
 static void in_a_handler(int again) {
     int set = PAPI_NULL, event;
     long long count;
@@ -45,7 +46,8 @@ static void in_a_handler(int again) {
     PAPI_shutdown();
 }
 
-/* A thread that lives through the end of one library and the begin of another has what it had in neither. */
+/* A thread that lives through the end of one library and the begin of another has what it had in
+ * neither. */
 static void *lives_on(void *unused) {
     long long count;
     int set = started();

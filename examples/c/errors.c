@@ -53,7 +53,8 @@ int main(void) {
     PAPI_perror("a set that is there");
     WANT(PAPI_num_components(), 2);
     PAPI_perror("and still");
-    for (int code = 0; code >= PAPI_EMULPASS; code--) fprintf(stderr, "%d %s\n", code, PAPI_strerror(code));
+    for (int code = 0; code >= PAPI_EMULPASS; code--)
+        fprintf(stderr, "%d %s\n", code, PAPI_strerror(code));
     WANT(PAPI_strerror(PAPI_EMULPASS - 1) == NULL, 1);
     WANT(PAPI_strerror(1) == NULL, 1);
 

@@ -38,7 +38,8 @@ static void natives(void) {
     WANT(PAPI_get_event_component(event), 1);
     WANT(PAPI_enum_cmp_event(&event, PAPI_ENUM_EVENTS, 1), PAPI_ENOEVNT);
     WANT(PAPI_enum_cmp_event(&event, PAPI_ENUM_FIRST, 2), PAPI_ENOCMP);
-    /* An event with a default umask can be added without one; of one without it a umask has to be chosen. */
+    /* An event with a default umask can be added without one; of one without it a umask has to be
+     * chosen. */
     WANT(PAPI_create_eventset(&set), PAPI_OK);
     event = PAPI_NATIVE_MASK;
     WANT(PAPI_enum_event(&event, PAPI_ENUM_FIRST), PAPI_OK);

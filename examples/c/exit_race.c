@@ -12,7 +12,8 @@
 static atomic_int begun;
 
 static void *work(void *unused) {
-    while (PAPI_hl_region_begin("region") == PAPI_OK && PAPI_hl_region_end("region") == PAPI_OK) atomic_fetch_add(&begun, 1);
+    while (PAPI_hl_region_begin("region") == PAPI_OK && PAPI_hl_region_end("region") == PAPI_OK)
+        atomic_fetch_add(&begun, 1);
     for (;;) PAPI_hl_read("region");
     return unused;
 }

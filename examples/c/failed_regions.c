@@ -1,4 +1,5 @@
-/* Regions that do not match end the high level, also for threads that are inside regions. Each thread's sets end with it, and the thread can count otherwise. */
+/* Regions that do not match end the high level, also for threads that are inside regions. Each
+ * thread's sets end with it, and the thread can count otherwise. */
 #define _DEFAULT_SOURCE
 #include "papi.h"
 #include "wanted.h"

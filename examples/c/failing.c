@@ -1,5 +1,5 @@
-/* Each allocation of a library's life is refused in turn: the calls answer PAPI_ENOMEM, the handle can be used on, and nothing
- * leaks. */
+/* Each allocation of a library's life is refused in turn: the calls answer PAPI_ENOMEM, the handle
+ * can be used on, and nothing leaks. */
 #include "kistalub.h"
 #include "refusing.h"
 #include "wanted.h"
@@ -17,7 +17,8 @@ static size_t file(const char *path, unsigned char *into) {
     return n;
 }
 
-/* Makes the calls, and says how many were refused memory. If the first is refused there is no library. */
+/* Makes the calls, and says how many were refused memory. If the first is refused there is no
+ * library. */
 static int live_once(void) {
     kistalub h = KISTALUB_SHUT;
     uint32_t set = 7, code = 0, consumed = 0, count = 0;
@@ -27,7 +28,9 @@ static int live_once(void) {
     kistalub_passing passings[32];
     const unsigned char *inst = (const unsigned char *)"INST_RETIRED";
     int refusals = 0, answer;
-    answer = kistalub_open(&h, unit, unit_length, presets, presets_length, (const unsigned char *)"lab2", 4, 0, (const unsigned char *)stream, sizeof stream - 1);
+    answer =
+        kistalub_open(&h, unit, unit_length, presets, presets_length, (const unsigned char *)"lab2",
+                      4, 0, (const unsigned char *)stream, sizeof stream - 1);
     if (answer != 0) {
         WANT(answer, -2);
         WANT(kistalub_create(&h, &set), -16);

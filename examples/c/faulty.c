@@ -1,4 +1,5 @@
-/* What is wrong with a file or a variable goes to standard error, and the call that met it answers PAPI_ESYS. */
+/* What is wrong with a file or a variable goes to standard error, and the call that met it answers
+ * PAPI_ESYS. */
 #include "papi.h"
 #include "wanted.h"
 #include <fcntl.h>
@@ -31,7 +32,8 @@ static void write_large(const char *name, long size) {
 static int begin(const char *unit_path, const char *presets, const char *stream) {
     int code = kistalub_init(unit_path, presets, "lab1", stream);
     if (code == PAPI_OK) code = PAPI_library_init(PAPI_VER_CURRENT);
-    fprintf(stderr, "%s %s %s: %s\n", unit_path == unit ? "lab.unit" : unit_path, presets ? presets : "-", stream, code < 0 ? PAPI_strerror(code) : "begun");
+    fprintf(stderr, "%s %s %s: %s\n", unit_path == unit ? "lab.unit" : unit_path,
+            presets ? presets : "-", stream, code < 0 ? PAPI_strerror(code) : "begun");
     return code;
 }
 
@@ -44,7 +46,8 @@ static int started(void) {
     return set;
 }
 
-/* The call that meets a faulty line answers PAPI_ESYS once, and is not made; after that the stream has ended. */
+/* The call that meets a faulty line answers PAPI_ESYS once, and is not made; after that the stream
+ * has ended. */
 static void read_over(const char *stream, long long wanted) {
     long long count = -1;
     uint32_t went = 0;
@@ -87,7 +90,8 @@ static void streams(void) {
     read_over("larger", 0);
 }
 
-/* A path that is longer than any of the system's is not cut; the line that names it is not shown. */
+/* A path that is longer than any of the system's is not cut; the line that names it is not
+ * shown. */
 static void long_path(void) {
     char path[6000];
     int shown = dup(2), nothing = open("/dev/null", O_WRONLY);
@@ -112,7 +116,8 @@ static void unreadable(void) {
     PAPI_shutdown();
 }
 
-/* The first thread has its stream, and the second one none that can be read. It is told once, and each of its calls is refused. */
+/* The first thread has its stream, and the second one none that can be read. It is told once, and
+ * each of its calls is refused. */
 static void *refused(void *unused) {
     int set = PAPI_NULL;
     WANT(PAPI_register_thread(), PAPI_ESYS);
@@ -136,7 +141,8 @@ static void of_a_thread(void) {
 
 static void tables(void) {
     write_file("faulty.unit", "COMPONENT,cpu,lab\nCOUNTER,P0,16,P\nCOUNTER,P1,99,P\n");
-    write_file("faulty.presets", "CPU,lab1\nPRESET,PAPI_TOT_INS,NOT_DERIVED,INST_RETIRED\nPRESET,PAPI_TOT_CYC,DERIVED_WRONG,CYCLES\n");
+    write_file("faulty.presets", "CPU,lab1\nPRESET,PAPI_TOT_INS,NOT_DERIVED,INST_RETIRED\nPRESET,"
+                                 "PAPI_TOT_CYC,DERIVED_WRONG,CYCLES\n");
     write_large("large.unit", TABLE_LIMIT + 1);
     WANT(begin("faulty.unit", NULL, "field"), PAPI_ESYS);
     WANT(begin(unit, "faulty.presets", "field"), PAPI_ESYS);
@@ -153,15 +159,20 @@ static void variable(const char *name, const char *value) {
 
 /* What is read later is judged when the library begins, too. */
 static void files_of_variables(void) {
-    static const char *const caches[] = { "l1d=32768,8", "l1d=32768,8,64 l9=1,1,1", "l1d=0,8,64", "l1d=1,1,99999999999", "l1d=1,1,1,1", "l1d", "L1D=1,1,1" };
-    for (size_t i = 0; i < sizeof caches / sizeof *caches; i++) variable("KISTALUB_CACHES", caches[i]);
+    static const char *const caches[] = { "l1d=32768,8", "l1d=32768,8,64 l9=1,1,1",
+                                          "l1d=0,8,64",  "l1d=1,1,99999999999",
+                                          "l1d=1,1,1,1", "l1d",
+                                          "L1D=1,1,1" };
+    for (size_t i = 0; i < sizeof caches / sizeof *caches; i++)
+        variable("KISTALUB_CACHES", caches[i]);
     variable("KISTALUB_STREAM", "field");
     variable("KISTALUB_STREAM", "missing.%t");
 }
 
 int main(void) {
     char folder[] = "/tmp/kistalub_faulty_XXXXXX";
-    static const char *const files[] = { "field", "fields", "stamp", "long", "larger", "faulty.unit", "faulty.presets", "large.unit" };
+    static const char *const files[] = { "field",  "fields",      "stamp",          "long",
+                                         "larger", "faulty.unit", "faulty.presets", "large.unit" };
     unit = getenv("KISTALUB_UNIT");
     WANT(mkdtemp(folder) != NULL, 1);
     WANT(chdir(folder), 0);

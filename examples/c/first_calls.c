@@ -1,4 +1,5 @@
-/* A signal comes while threads make their first calls, and its handler makes calls too: each thread begins once. */
+/* A signal comes while threads make their first calls, and its handler makes calls too: each thread
+ * begins once. */
 #define _DEFAULT_SOURCE
 #include "papi.h"
 #include "wanted.h"

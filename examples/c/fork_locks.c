@@ -1,4 +1,5 @@
-/* A process is forked while a thread waits for a lock of the program: in the child nobody waits for it. */
+/* A process is forked while a thread waits for a lock of the program: in the child nobody waits for
+ * it. */
 #define _DEFAULT_SOURCE
 #include "papi.h"
 #include "wanted.h"

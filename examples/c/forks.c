@@ -1,4 +1,5 @@
-/* A process is forked while its other threads make calls: the child begins a library of its own, and no lock of another thread stands in its way. */
+/* A process is forked while its other threads make calls: the child begins a library of its own,
+ * and no lock of another thread stands in its way. */
 #include "papi.h"
 #include "wanted.h"
 #include <pthread.h>

@@ -1,12 +1,14 @@
-/* Routines for Fortran, called as its compilers call them: each number of the hardware is the one of its name, and a name of any length is taken. */
+/* Routines for Fortran, called as its compilers call them: each number of the hardware is the one
+ * of its name, and a name of any length is taken. */
 #include "papi.h"
 #include "wanted.h"
 #include <string.h>
 
 #define LONGEST 3000 /* more than there is room for */
 
-void papif_get_hardware_info_(int *cpus, int *nodes, int *all_cpus, int *vendor, char *vendor_text, int *model, char *model_text, float *revision, float *mhz, int vendor_length,
-                              int model_length);
+void papif_get_hardware_info_(int *cpus, int *nodes, int *all_cpus, int *vendor, char *vendor_text,
+                              int *model, char *model_text, float *revision, float *mhz,
+                              int vendor_length, int model_length);
 void papif_event_name_to_code_(const char *name, int *event, int *check, int length);
 
 /* The library fills this once, and keeps what a program writes there. */
@@ -16,10 +18,12 @@ static void hardware(void) {
     float revision, mhz;
     char vendor_text[4], model_text[8];
     WANT(kept != NULL, 1);
-    kept->ncpu = 2, kept->nnodes = 3, kept->totalcpus = 4, kept->vendor = 5, kept->model = 6, kept->revision = 7, kept->cpu_max_mhz = 8;
+    kept->ncpu = 2, kept->nnodes = 3, kept->totalcpus = 4, kept->vendor = 5, kept->model = 6,
+    kept->revision = 7, kept->cpu_max_mhz = 8;
     strcpy(kept->vendor_string, "maker");
     strcpy(kept->model_string, "model");
-    papif_get_hardware_info_(&cpus, &nodes, &all_cpus, &vendor, vendor_text, &model, model_text, &revision, &mhz, sizeof vendor_text, sizeof model_text);
+    papif_get_hardware_info_(&cpus, &nodes, &all_cpus, &vendor, vendor_text, &model, model_text,
+                             &revision, &mhz, sizeof vendor_text, sizeof model_text);
     const int all[] = { cpus, nodes, all_cpus, vendor, model, (int)revision, (int)mhz };
     for (int i = 0; i < 7; i++) WANT(all[i], i + 2);
     WANT(memcmp(vendor_text, "make", sizeof vendor_text), 0);

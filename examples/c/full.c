@@ -1,4 +1,5 @@
-/* As much as there can be: a set of 32 events, of which the first is taken out, and regions that count on 16 components, or on one beside a set of the program. */
+/* As much as there can be: a set of 32 events, of which the first is taken out, and regions that
+ * count on 16 components, or on one beside a set of the program. */
 #define _DEFAULT_SOURCE
 #include "papi.h"
 #include "wanted.h"
@@ -25,7 +26,8 @@ static void write_unit(int components, int events) {
     for (int c = 0; c < components; c++) {
         fprintf(f, "COMPONENT,c%d,p%d\n", c, c);
         for (int e = 0; e < events; e++) fprintf(f, "COUNTER,C%d,48,P\n", e);
-        for (int e = 0; e < events; e++) fprintf(f, "EVENT,E%d_%d,%02x,C%d,An event\n", c, e, 0xc0 + e, e);
+        for (int e = 0; e < events; e++)
+            fprintf(f, "EVENT,E%d_%d,%02x,C%d,An event\n", c, e, 0xc0 + e, e);
     }
     WANT(fclose(f), 0);
 }
@@ -75,7 +77,8 @@ static int take_files(const char *below, const char *text) {
     return n;
 }
 
-/* A region counts these events, in a process that has a set with an event of its own. The regions are written when it ends. */
+/* A region counts these events, in a process that has a set with an event of its own. The regions
+ * are written when it ends. */
 static void count(const char *names, const char *own) {
     int status, set = PAPI_NULL, event, left = 0, number = 1;
     setenv("PAPI_EVENTS", names, 1);

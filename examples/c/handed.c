@@ -1,4 +1,5 @@
-/* Occurrences that are handed over as numbers: they count as lines of 255 and a last one of the rest. */
+/* Occurrences that are handed over as numbers: they count as lines of 255 and a last one of the
+ * rest. */
 #include "kistalub.h"
 #include "wanted.h"
 #include <stdlib.h>
@@ -9,23 +10,33 @@ static unsigned char unit[65536], none[1];
 static size_t length;
 
 static uint32_t hand_over(kistalub *h, uint32_t amount, uint8_t kernel, size_t room) {
-    const kistalub_occurrences what = { .address = 0x4a, .amount = amount, .select = 0xc0, .kernel = kernel };
+    const kistalub_occurrences what = {
+        .address = 0x4a, .amount = amount, .select = 0xc0, .kernel = kernel
+    };
     kistalub_passing passings[33];
     uint32_t went = 99;
     uint64_t told = 99;
     memset(passings, 0x7f, sizeof passings);
     int code = kistalub_happen(h, &what, &went, passings, room, &told);
-    printf("%d: %u of %u, %llu passings", code, (unsigned)went, (unsigned)amount, (unsigned long long)told);
-    for (uint64_t k = 0; told < sizeof passings / sizeof *passings && k < told; k++) printf(", at 0x%llx", (unsigned long long)passings[k].address);
+    printf("%d: %u of %u, %llu passings", code, (unsigned)went, (unsigned)amount,
+           (unsigned long long)told);
+    for (uint64_t k = 0; told < sizeof passings / sizeof *passings && k < told; k++)
+        printf(", at 0x%llx", (unsigned long long)passings[k].address);
     puts("");
     return amount - went;
 }
 
-static void begin(kistalub *h, const char *text, const char *event, uint64_t threshold, uint32_t *set) {
-    WANT(kistalub_open(h, unit, length, none, 0, none, 0, 0, (const unsigned char *)text, strlen(text)), 0);
+static void begin(kistalub *h, const char *text, const char *event, uint64_t threshold,
+                  uint32_t *set) {
+    WANT(kistalub_open(h, unit, length, none, 0, none, 0, 0, (const unsigned char *)text,
+                       strlen(text)),
+         0);
     WANT(kistalub_create(h, set), 0);
     WANT(kistalub_add_named(h, *set, (const unsigned char *)event, strlen(event)), 0);
-    if (threshold) WANT(kistalub_overflow_named(h, *set, (const unsigned char *)event, strlen(event), threshold), 0);
+    if (threshold)
+        WANT(kistalub_overflow_named(h, *set, (const unsigned char *)event, strlen(event),
+                                     threshold),
+             0);
     WANT(kistalub_start(h, *set), 0);
 }
 

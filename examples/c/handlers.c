@@ -1,4 +1,5 @@
-/* The program's error handler is called once for a call, and under no lock; so is the function that gives the ids of threads. */
+/* The program's error handler is called once for a call, and under no lock; so is the function that
+ * gives the ids of threads. */
 #include "papi.h"
 #include "wanted.h"
 #include <pthread.h>

@@ -140,7 +140,8 @@ int main(void) {
     WANT(PAPI_unregister_thread(), PAPI_OK);
     WANT(PAPI_unregister_thread(), PAPI_EMISC);
     PAPI_shutdown();
-    /* without a function an id is that of the process, and there is one for the whole life of the library */
+    /* without a function an id is that of the process, and there is one for the whole life of the
+     * library */
     WANT(PAPI_library_init(PAPI_VER_CURRENT), PAPI_VER_CURRENT);
     WANT(PAPI_is_initialized(), PAPI_LOW_LEVEL_INITED);
     WANT(PAPI_thread_init(NULL), PAPI_OK);

@@ -1,4 +1,5 @@
-/* Threads ask for what is known of the components, and read it. One component is disabled, and none of them gets an event of it. */
+/* Threads ask for what is known of the components, and read it. One component is disabled, and none
+ * of them gets an event of it. */
 #include "papi.h"
 #include "wanted.h"
 #include <pthread.h>

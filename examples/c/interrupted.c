@@ -1,4 +1,5 @@
-/* A signal comes again and again, and its handler counts: each call answers as it does elsewhere, also if it interrupts another one. */
+/* A signal comes again and again, and its handler counts: each call answers as it does elsewhere,
+ * also if it interrupts another one. */
 #define _DEFAULT_SOURCE
 #include "papi.h"
 #include "wanted.h"
@@ -113,7 +114,9 @@ static void set_handler(void (*function)(int)) {
 
 static void tell_refused(void) {
     tick(0);
-    if (refused) printf("%d of %d calls in the handler were refused, the last with %d\n", refused, handled, last);
+    if (refused)
+        printf("%d of %d calls in the handler were refused, the last with %d\n", refused, handled,
+               last);
     WANT(refused, 0);
     WANT(handled > 0, 1);
 }

@@ -1,4 +1,5 @@
-/* Intervals of multiplexed sets: one that is too long or too short is the nearest that can be, and the program is told which one it is. */
+/* Intervals of multiplexed sets: one that is too long or too short is the nearest that can be, and
+ * the program is told which one it is. */
 #include "papi.h"
 #include "wanted.h"
 #include <limits.h>
@@ -7,7 +8,8 @@
 #define USUAL 100
 
 static int multiplexed(int ns) {
-    PAPI_option_t o = { .multiplex = { .eventset = PAPI_NULL, .ns = ns, .flags = PAPI_MULTIPLEX_DEFAULT } };
+    PAPI_option_t o = { .multiplex = {
+                            .eventset = PAPI_NULL, .ns = ns, .flags = PAPI_MULTIPLEX_DEFAULT } };
     WANT(PAPI_create_eventset(&o.multiplex.eventset), PAPI_OK);
     WANT(PAPI_set_opt(PAPI_MULTIPLEX, &o), PAPI_OK);
     PAPI_option_t got = { .multiplex = { .eventset = o.multiplex.eventset } };
@@ -28,7 +30,8 @@ static int usual(int option, int ns) {
 }
 
 static void at(const char *mhz) {
-    int rate = atoi(mhz), least = rate > 1000 ? 1 : 1000 / rate, longest = (int)(LONGEST * 1000LL / rate);
+    int rate = atoi(mhz), least = rate > 1000 ? 1 : 1000 / rate,
+        longest = (int)(LONGEST * 1000LL / rate);
     PAPI_option_t below = { .multiplex = { .ns = -1 } };
     setenv("KISTALUB_MHZ", mhz, 1);
     WANT(PAPI_library_init(PAPI_VER_CURRENT), PAPI_VER_CURRENT);

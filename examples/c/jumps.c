@@ -1,4 +1,5 @@
-/* A handler jumps out of the call that it was called in: time goes on after that, and the handler is called again. */
+/* A handler jumps out of the call that it was called in: time goes on after that, and the handler
+ * is called again. */
 #include "papi.h"
 #include "wanted.h"
 #include <setjmp.h>

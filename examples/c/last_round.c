@@ -1,4 +1,5 @@
-/* In the last round of its destructors a thread still reads its set. Nothing happens to it any more, and no handler is called. */
+/* In the last round of its destructors a thread still reads its set. Nothing happens to it any
+ * more, and no handler is called. */
 #define _DEFAULT_SOURCE
 #include "papi.h"
 #include "wanted.h"

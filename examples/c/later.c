@@ -1,10 +1,28 @@
-/* A program that was compiled by the header of PAPI 7.2 (Debian's libpapi-dev 7.2.0-2): the numbers and places are those that it has there. One of 7.1 has those of 7.0. */
+/* A program that was compiled by the header of PAPI 7.2 (Debian's libpapi-dev 7.2.0-2): the numbers
+ * and places are those that it has there. One of 7.1 has those of 7.0. */
 #include "papi.h"
 #include "wanted.h"
 #include <string.h>
 
-enum { INITIALIZED = 2568, INDEX = 2572, COUNTERS = 2576, PMU_NAMES = 2616, SIZE = 3296, QUALIFIERS = 6680, EVENT_SIZE = 23068 };
-enum { COMPONENT_FIRST = 2, AVAILABLE = 3, MISCELLANEOUS = 4, INSTRUCTIONS = 5, FLOATING = 15, CPU = 16, CPU_AVAILABLE = 17, UMASKS = 18 };
+enum {
+    INITIALIZED = 2568,
+    INDEX = 2572,
+    COUNTERS = 2576,
+    PMU_NAMES = 2616,
+    SIZE = 3296,
+    QUALIFIERS = 6680,
+    EVENT_SIZE = 23068
+};
+enum {
+    COMPONENT_FIRST = 2,
+    AVAILABLE = 3,
+    MISCELLANEOUS = 4,
+    INSTRUCTIONS = 5,
+    FLOATING = 15,
+    CPU = 16,
+    CPU_AVAILABLE = 17,
+    UMASKS = 18
+};
 
 static int number_at(const void *told, size_t place) {
     int number;
@@ -33,7 +51,10 @@ static int counts_of(int version, const int *modifiers, int *counts) {
 
 int main(void) {
     static char event[EVENT_SIZE + 8];
-    static const int first[] = { PAPI_PRESET_ENUM_AVAIL, PAPI_PRESET_ENUM_MSC, PAPI_PRESET_ENUM_INS, PAPI_PRESET_ENUM_FP, PAPI_ENUM_EVENTS, PAPI_NTV_ENUM_UMASKS };
+    static const int first[] = {
+        PAPI_PRESET_ENUM_AVAIL, PAPI_PRESET_ENUM_MSC, PAPI_PRESET_ENUM_INS,
+        PAPI_PRESET_ENUM_FP,    PAPI_ENUM_EVENTS,     PAPI_NTV_ENUM_UMASKS
+    };
     static const int later[] = { AVAILABLE, MISCELLANEOUS, INSTRUCTIONS, FLOATING, CPU, UMASKS };
     int wanted[5], told[5];
     for (int minor = 0; minor < 2; minor++) {
@@ -59,7 +80,8 @@ int main(void) {
             WANT(number_at(info, INITIALIZED), 1);
             WANT(number_at(info, INDEX), i);
             WANT(number_at(info, COUNTERS) > 0, 1);
-            WANT(number_at(info, SIZE - 8) & 1, 1); /* an overflow is told by the counters themselves */
+            /* An overflow is told by the counters themselves. */
+            WANT(number_at(info, SIZE - 8) & 1, 1);
         }
         WANT(PAPI_get_component_info(0) == PAPI_get_component_info(0), 1);
         WANT(PAPI_get_event_info(PAPI_TOT_INS, (PAPI_event_info_t *)(void *)event) <= 0, 1);

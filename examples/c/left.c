@@ -1,4 +1,5 @@
-/* A handler of a signal jumps out of the call that it interrupts, again and again: the call is as if it had ended or had not begun. */
+/* A handler of a signal jumps out of the call that it interrupts, again and again: the call is as
+ * if it had ended or had not begun. */
 #define _DEFAULT_SOURCE
 #include "papi.h"
 #include "wanted.h"
@@ -124,7 +125,8 @@ static void leave_often(void (*work)(void), int often) {
 
 static void leave(void (*work)(void)) { leave_often(work, JUMPS); }
 
-/* Each jump may leave a region open, and there is room for few. The program's own set does not count then. */
+/* Each jump may leave a region open, and there is room for few. The program's own set does not
+ * count then. */
 static void leave_regions(void) {
     for (int i = 0; i < CHILDREN; i++) {
         int status;

@@ -1,5 +1,7 @@
-/* The first handler of a process is set after many calls, and jumps out of the call that it interrupts. A reading leaves all as it was. A change in the midst of which
- * it comes takes the thread's counters: its calls answer PAPI_ECLOST until a library is begun anew, and none gives a wrong count. */
+/* The first handler of a process is set after many calls, and jumps out of the call that it
+ * interrupts. A reading leaves all as it was. A change in the midst of which it comes takes the
+ * thread's counters: its calls answer PAPI_ECLOST until a library is begun anew, and none gives a
+ * wrong count. */
 #define _DEFAULT_SOURCE
 #include "papi.h"
 #include "wanted.h"
@@ -94,7 +96,9 @@ int main(void) {
             _exit(LOST); /* what a lost thread has is left */
         }
         WANT(waitpid(child, &status, 0), child);
-        WANT(WIFEXITED(status) && (WEXITSTATUS(status) == 0 || (i % 2 && WEXITSTATUS(status) == LOST)), 1);
+        WANT(WIFEXITED(status) &&
+                 (WEXITSTATUS(status) == 0 || (i % 2 && WEXITSTATUS(status) == LOST)),
+             1);
     }
     unlink(stream);
     puts("none counts wrong");

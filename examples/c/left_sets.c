@@ -1,4 +1,5 @@
-/* A thread is in regions of two libraries, under another number in each; another one asks for a rate. When they end none of their sets is left. */
+/* A thread is in regions of two libraries, under another number in each; another one asks for a
+ * rate. When they end none of their sets is left. */
 #define _DEFAULT_SOURCE
 #include "papi.h"
 #include "wanted.h"

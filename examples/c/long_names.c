@@ -1,4 +1,5 @@
-/* Names of events: one without an end is read as far as one can be long, and the longest one that a unit has is known. */
+/* Names of events: one without an end is read as far as one can be long, and the longest one that a
+ * unit has is known. */
 #define _DEFAULT_SOURCE
 #include "papi.h"
 #include "wanted.h"
@@ -29,7 +30,9 @@ static const char *part(char letter, int number) { return part_of(PART, letter, 
 /* The umask after those of the most letters fills a name up, and the next one has a letter more. */
 static const char *umask(int number) {
     const int left = MOST - (PART + 2 + PART + WHOLE * (1 + PART)) - 1;
-    return number == WHOLE ? part_of(left, 'M', number) : number == WHOLE + 1 ? part_of(left + 1, 'M', number) : part('M', number);
+    return number == WHOLE       ? part_of(left, 'M', number)
+           : number == WHOLE + 1 ? part_of(left + 1, 'M', number)
+                                 : part('M', number);
 }
 
 static void write_unit(void) {
@@ -101,7 +104,8 @@ int main(void) {
     memcpy(endless, longest, strlen(longest));
     is_none(set, endless, PAPI_EATTR);
     WANT(PAPI_get_component_index(endless), PAPI_ENOCMP);
-    WANT(PAPI_event_name_to_code(longest, &event), PAPI_EBUF); /* what it would be called again has no room */
+    /* What it would be called again has no room. */
+    WANT(PAPI_event_name_to_code(longest, &event), PAPI_EBUF);
     is_called_again();
     WANT(PAPI_add_named_event(set, longest), PAPI_OK);
     WANT(PAPI_num_events(set), 1);

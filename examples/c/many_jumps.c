@@ -1,4 +1,5 @@
-/* Handlers jump out of calls at one place of the program, again and again: time stands in each of them, and goes on after it. */
+/* Handlers jump out of calls at one place of the program, again and again: time stands in each of
+ * them, and goes on after it. */
 #define _DEFAULT_SOURCE
 #include "papi.h"
 #include "wanted.h"

@@ -1,4 +1,5 @@
-/* A program with many shared libraries sees each of them: it opens copies of the one that it is given. */
+/* A program with many shared libraries sees each of them: it opens copies of the one that it is
+ * given. */
 #define _DEFAULT_SOURCE
 #include "papi.h"
 #include "wanted.h"
@@ -22,7 +23,8 @@ static int seen(void) {
     const PAPI_shlib_info_t *all = PAPI_get_shared_lib_info();
     int n = 0;
     WANT(all != NULL, 1);
-    for (int i = 0; i < all->count; i++) n += strncmp(all->map[i].name, folder, strlen(folder)) == 0;
+    for (int i = 0; i < all->count; i++)
+        n += strncmp(all->map[i].name, folder, strlen(folder)) == 0;
     return n;
 }
 

@@ -1,4 +1,5 @@
-/* A handler that is called while a region begins, is read or ends begins and ends regions itself, or jumps out. */
+/* A handler that is called while a region begins, is read or ends begins and ends regions itself,
+ * or jumps out. */
 #define _DEFAULT_SOURCE
 #include "papi.h"
 #include "wanted.h"
@@ -54,7 +55,8 @@ static void in_another(void (*what)(void), int depth) {
     deed = what;
 }
 
-/* The handler ends the region that is just being ended: the regions do not match, and the high level has failed. */
+/* The handler ends the region that is just being ended: the regions do not match, and the high
+ * level has failed. */
 static void end_twice(void) {
     in_another(end_region, 1);
     WANT(PAPI_hl_region_end("region"), PAPI_EINVAL);

@@ -1,4 +1,5 @@
-/* Which thread has which stream: that of the number it asks for, or the next one by the order of first calls. */
+/* Which thread has which stream: that of the number it asks for, or the next one by the order of
+ * first calls. */
 #include "papi.h"
 #include "wanted.h"
 #include <pthread.h>
@@ -63,7 +64,8 @@ int main(void) {
     }
     begin();
     run(numbered, THREADS, 1);
-    run(numbered, THREADS, 1); /* the threads of before have ended, so that their numbers are free */
+    /* The threads of before have ended, so that their numbers are free. */
+    run(numbered, THREADS, 1);
     PAPI_shutdown();
     begin();
     run(by_order, THREADS, 0);

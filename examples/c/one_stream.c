@@ -1,4 +1,5 @@
-/* A thousand threads come and go over one stream. Each has a copy of it while it counts, opening takes no more than that, and nothing stays when a thread has ended. */
+/* A thousand threads come and go over one stream. Each has a copy of it while it counts, opening
+ * takes no more than that, and nothing stays when a thread has ended. */
 #define _DEFAULT_SOURCE
 #include "papi.h"
 #include "wanted.h"
@@ -66,7 +67,8 @@ int main(void) {
     WANT(pthread_attr_init(&attributes), 0);
     WANT(pthread_attr_setstacksize(&attributes, STACK), 0);
     WANT(PAPI_library_init(PAPI_VER_CURRENT), PAPI_VER_CURRENT);
-    const struct rlimit most = { data_bytes() + SIZE + SIZE * 3 / 4, RLIM_INFINITY }; /* for the copy of one more thread, its stack, and the list */
+    /* for the copy of one more thread, its stack, and the list */
+    const struct rlimit most = { data_bytes() + SIZE + SIZE * 3 / 4, RLIM_INFINITY };
     WANT(setrlimit(RLIMIT_DATA, &most), 0);
     for (int i = 0; i < THREADS; i++) run(&attributes);
     WANT(PAPI_list_threads(NULL, &number), PAPI_OK);

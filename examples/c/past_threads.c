@@ -1,5 +1,6 @@
-/* The library ends while threads are in their last destructors, in which they read the sets that they leave, and while another thread reads these too. Each call answers,
- * and one that reads a set gives what it counted. */
+/* The library ends while threads are in their last destructors, in which they read the sets that
+ * they leave, and while another thread reads these too. Each call answers, and one that reads a set
+ * gives what it counted. */
 #define _DEFAULT_SOURCE
 #include "papi.h"
 #include "wanted.h"

@@ -17,7 +17,8 @@ static void *give(void *unused) {
     for (int i = 0; i < LINES + 1; i++) {
         const int to = open(path, O_WRONLY);
         WANT(to >= 0, 1);
-        for (int line = 0; i == 0 && line < LINES; line++) WANT(write(to, "0 c0 00 u 200 1\n", 16), 16);
+        for (int line = 0; i == 0 && line < LINES; line++)
+            WANT(write(to, "0 c0 00 u 200 1\n", 16), 16);
         WANT(close(to), 0);
         usleep(1000); /* who has read to the end closes it meanwhile */
     }

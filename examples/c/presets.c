@@ -3,7 +3,8 @@
 #include "wanted.h"
 
 int main(void) {
-    int set = PAPI_NULL, event = PAPI_PRESET_MASK, modifier = PAPI_ENUM_FIRST, events[2] = { PAPI_RES_STL, PAPI_LST_INS }, listed[4], number = 4;
+    int set = PAPI_NULL, event = PAPI_PRESET_MASK, modifier = PAPI_ENUM_FIRST,
+        events[2] = { PAPI_RES_STL, PAPI_LST_INS }, listed[4], number = 4;
     long long counts[2];
     char name[PAPI_MAX_STR_LEN];
     WANT(PAPI_library_init(PAPI_VER_CURRENT), PAPI_VER_CURRENT);

@@ -1,4 +1,5 @@
-/* Programs that look for the component of processors by PAPI's name for it, as PAPI's counter analysis toolkit does, find it, and by that of the unit's file too. */
+/* Programs that look for the component of processors by PAPI's name for it, as PAPI's counter
+ * analysis toolkit does, find it, and by that of the unit's file too. */
 #include "papi.h"
 #include "kistalub.h"
 #include "wanted.h"
@@ -15,7 +16,8 @@ int main(void) {
     const char *unit = getenv("KISTALUB_UNIT");
     int code = PAPI_NATIVE_MASK, set = PAPI_NULL;
     long long value = -1;
-    for (const char *const *name = (const char *const[]){ "cpu", "perf_event", NULL }; *name; name++) {
+    for (const char *const *name = (const char *const[]){ "cpu", "perf_event", NULL }; *name;
+         name++) {
         WANT(PAPI_disable_component_by_name(*name), PAPI_OK);
         WANT(kistalub_init(unit, NULL, NULL, NULL), PAPI_OK);
         WANT(PAPI_library_init(PAPI_VER_CURRENT), PAPI_VER_CURRENT);

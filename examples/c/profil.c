@@ -1,4 +1,5 @@
-/* Where in a program the instructions are retired: a histogram of addresses, one bucket for each 16 bytes. */
+/* Where in a program the instructions are retired: a histogram of addresses, one bucket for each 16
+ * bytes. */
 #include "papi.h"
 #include "wanted.h"
 

@@ -26,14 +26,25 @@ static int profil(unsigned *buckets, unsigned size, unsigned scale, int flags) {
     return PAPI_profil(buckets, size, (vptr_t)0x400000, scale, set, event, 256, flags);
 }
 
-/* The stream passes the threshold at the addresses 400000, 400010, 400014, 40001f, 400030 and 400040. */
+/* The stream passes the threshold at the addresses 400000, 400010, 400014, 40001f, 400030 and
+ * 400040. */
 static void regions(void) {
     unsigned first[2] = { 0 }, second[16] = { 0 }, third[4] = { 0 }, none[16] = { 0 };
     PAPI_sprofil_t parts[] = {
-        { .pr_base = third, .pr_size = sizeof third, .pr_off = (vptr_t)0x400030, .pr_scale = 131072 },
-        { .pr_base = first, .pr_size = sizeof first, .pr_off = (vptr_t)0x400000, .pr_scale = 131072 },
-        { .pr_base = second, .pr_size = sizeof second, .pr_off = (vptr_t)0x400010, .pr_scale = 65536 },
-        { .pr_base = none, .pr_size = sizeof none, .pr_off = (vptr_t)0x400010, .pr_scale = 65536 }, /* the one before has its hits, as in PAPI */
+        { .pr_base = third,
+          .pr_size = sizeof third,
+          .pr_off = (vptr_t)0x400030,
+          .pr_scale = 131072 },
+        { .pr_base = first,
+          .pr_size = sizeof first,
+          .pr_off = (vptr_t)0x400000,
+          .pr_scale = 131072 },
+        { .pr_base = second,
+          .pr_size = sizeof second,
+          .pr_off = (vptr_t)0x400010,
+          .pr_scale = 65536 },
+        /* The one before has its hits, as in PAPI. */
+        { .pr_base = none, .pr_size = sizeof none, .pr_off = (vptr_t)0x400010, .pr_scale = 65536 },
     };
     begin(NULL);
     WANT(PAPI_sprofil(parts, 3, set, event, 0, PAPI_PROFIL_BUCKET_32), PAPI_EINVAL);
@@ -56,9 +67,11 @@ static void refused(void) {
     unsigned buckets[1];
     static const unsigned scales[] = { 0, 1, 65537, 131071, 131073 };
     begin(NULL);
-    for (size_t i = 0; i < sizeof scales / sizeof *scales; i++) WANT(profil(buckets, sizeof buckets, scales[i], 0), PAPI_EINVAL);
+    for (size_t i = 0; i < sizeof scales / sizeof *scales; i++)
+        WANT(profil(buckets, sizeof buckets, scales[i], 0), PAPI_EINVAL);
     WANT(profil(buckets, sizeof buckets, 2, 0x200), PAPI_EINVAL);
-    WANT(profil(buckets, sizeof buckets, 2, PAPI_PROFIL_BUCKET_16 | PAPI_PROFIL_BUCKET_64), PAPI_EINVAL);
+    WANT(profil(buckets, sizeof buckets, 2, PAPI_PROFIL_BUCKET_16 | PAPI_PROFIL_BUCKET_64),
+         PAPI_EINVAL);
     WANT(profil(NULL, sizeof buckets, 2, 0), PAPI_OK); /* nothing is counted, as in PAPI */
     WANT(profil(NULL, sizeof buckets, 2, 0), PAPI_OK);
     WANT(PAPI_profil(NULL, 0, 0, 2, set, event, 0, 0), PAPI_OK);
@@ -87,7 +100,8 @@ int main(void) {
     WANT(fclose(f), 0);
     regions();
     refused();
-    unsigned all = hits(stream, 0), some = hits(stream, PAPI_PROFIL_RANDOM), few = hits(stream, PAPI_PROFIL_COMPRESS);
+    unsigned all = hits(stream, 0), some = hits(stream, PAPI_PROFIL_RANDOM),
+             few = hits(stream, PAPI_PROFIL_COMPRESS);
     WANT(hits(stream, PAPI_PROFIL_WEIGHTED), all);
     WANT(some > all / 100 * 72 && some < all / 100 * 78, 1);
     WANT(few < all && few > all / 2, 1);

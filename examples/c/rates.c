@@ -1,4 +1,5 @@
-/* The first rate opens the library with support of threads; it may be asked for inside a region, and by threads that live already. A thread that ends leaves no set. */
+/* The first rate opens the library with support of threads; it may be asked for inside a region,
+ * and by threads that live already. A thread that ends leaves no set. */
 #define _GNU_SOURCE
 #include "papi.h"
 #include "wanted.h"

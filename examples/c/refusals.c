@@ -3,7 +3,12 @@
 #include "wanted.h"
 #include <string.h>
 
-static void handler(int set, void *address, long long vector, void *context) { (void)set; (void)address; (void)vector; (void)context; }
+static void handler(int set, void *address, long long vector, void *context) {
+    (void)set;
+    (void)address;
+    (void)vector;
+    (void)context;
+}
 
 int main(void) {
     int set = PAPI_NULL, other = PAPI_NULL, none = 7, event, next, number = 1, events[2];

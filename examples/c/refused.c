@@ -1,5 +1,6 @@
-/* Each allocation of a program that makes PAPI's calls is refused in turn: that call answers PAPI_ENOMEM, the same call then answers as it does
- * with ample memory, and after PAPI_shutdown nothing is left. */
+/* Each allocation of a program that makes PAPI's calls is refused in turn: that call answers
+ * PAPI_ENOMEM, the same call then answers as it does with ample memory, and after PAPI_shutdown
+ * nothing is left. */
 #include "papi.h"
 #include "refusing.h"
 #include "wanted.h"
@@ -113,7 +114,8 @@ static void life(void) {
     MADE(PAPI_stop(set, counts), PAPI_OK);
     WANT(counts[1], -2040);
     WANT(told, 2);
-    MADE(PAPI_profil(buckets, sizeof buckets, 0, 2, set, event, 256, PAPI_PROFIL_BUCKET_32), PAPI_OK);
+    MADE(PAPI_profil(buckets, sizeof buckets, 0, 2, set, event, 256, PAPI_PROFIL_BUCKET_32),
+         PAPI_OK);
     MADE(PAPI_list_events(set, listed, &number), PAPI_OK);
     WANT(listed[0], event);
     option.multiplex.eventset = other;
@@ -187,7 +189,8 @@ static void reads_a_region(void) {
     PAPI_shutdown();
 }
 
-/* The first region of a process, in which an allocation is refused. It fails then, and with it each further call for a region. */
+/* The first region of a process, in which an allocation is refused. It fails then, and with it each
+ * further call for a region. */
 static int begins_a_region(long allocation) {
     long before = refusals;
     WANT(freopen("/dev/null", "w", stderr) != NULL, 1);
@@ -200,7 +203,8 @@ static int begins_a_region(long allocation) {
     return is_refused;
 }
 
-/* Each allocation of it refused in turn, until one has none that is. Each is a process of its own. */
+/* Each allocation of it refused in turn, until one has none that is. Each is a process of its
+ * own. */
 static int each_refused_to_a_region(void) {
     int status, is_refused = 1;
     long k = 0;
@@ -211,7 +215,8 @@ static int each_refused_to_a_region(void) {
         pid_t child = fork();
         if (child == 0) exit(begins_a_region(k) ? IS_REFUSED : 0);
         WANT(waitpid(child, &status, 0), child);
-        WANT(WIFEXITED(status) && (WEXITSTATUS(status) == 0 || WEXITSTATUS(status) == IS_REFUSED), 1);
+        WANT(WIFEXITED(status) && (WEXITSTATUS(status) == 0 || WEXITSTATUS(status) == IS_REFUSED),
+             1);
         is_refused = WEXITSTATUS(status) == IS_REFUSED;
     }
     return k > 1;

@@ -1,5 +1,6 @@
-/* Refuses one allocation of a program, after as many as `left` says, and counts those that are live and those that were refused.
- * For programs linked with --wrap=malloc, --wrap=calloc, --wrap=realloc and --wrap=free. */
+/* Refuses one allocation of a program, after as many as `left` says, and counts those that are live
+ * and those that were refused. For programs linked with --wrap=malloc, --wrap=calloc,
+ * --wrap=realloc and --wrap=free. */
 #ifndef REFUSING_H
 #define REFUSING_H
 
@@ -24,7 +25,9 @@ static void *counted(void *p) {
 }
 
 void *__wrap_malloc(size_t n) { return refused() ? NULL : counted(__real_malloc(n)); }
-void *__wrap_calloc(size_t n, size_t size) { return refused() ? NULL : counted(__real_calloc(n, size)); }
+void *__wrap_calloc(size_t n, size_t size) {
+    return refused() ? NULL : counted(__real_calloc(n, size));
+}
 
 void *__wrap_realloc(void *p, size_t n) {
     if (!p) return __wrap_malloc(n);

@@ -1,4 +1,5 @@
-/* Where the high level writes what its regions counted, and what they count: each case is a process of its own. */
+/* Where the high level writes what its regions counted, and what they count: each case is a process
+ * of its own. */
 #define _DEFAULT_SOURCE
 #include "papi.h"
 #include "wanted.h"
@@ -82,7 +83,8 @@ static int folders(void) {
     return n;
 }
 
-/* The folder is that of the begin, whatever the program does then; an earlier one is renamed at the begin. */
+/* The folder is that of the begin, whatever the program does then; an earlier one is renamed at the
+ * begin. */
 static void goes_elsewhere(void) {
     unsetenv("PAPI_OUTPUT_DIRECTORY");
     WANT(chdir(above), 0);
@@ -97,7 +99,8 @@ static void goes_elsewhere_by_name(void) {
     WANT(chdir("/"), 0);
 }
 
-/* Another process of the program ends while this one runs, and a while passes before this one does. */
+/* Another process of the program ends while this one runs, and a while passes before this one
+ * does. */
 static void ends_later(void) {
     const struct utimbuf long_ago = { 1, 1 };
     region("r");
@@ -187,7 +190,8 @@ static void events(void) {
     WANT(times("papi_hl_output/rank_000000.json", "\"component\":\"perf_event\""), 5);
     take_away("papi_hl_output");
     unsetenv("PAPI_MULTIPLEX");
-    setenv("PAPI_EVENTS", "CYCLES,PACKETS,INST_RETIRED", 1); /* the second one is of another component */
+    /* The second one is of another component. */
+    setenv("PAPI_EVENTS", "CYCLES,PACKETS,INST_RETIRED", 1);
     run(counts_a_region);
     WANT(times("papi_hl_output/rank_000000.json", "\"INST_RETIRED\":\"255\""), 1);
     WANT(times("papi_hl_output/rank_000000.json", "\"PACKETS\":\"0\""), 1);
@@ -198,7 +202,8 @@ static void events(void) {
     WANT(times("papi_hl_output/rank_000000.json", "\"PAPI_TOT_CYC\":{"), 1);
     take_away("papi_hl_output");
     write_unit();
-    for (int i = 0; i < COMPONENTS * EACH; i++) sprintf(many + strlen(many), "pmu%d::E%d,", i / EACH, i % EACH);
+    for (int i = 0; i < COMPONENTS * EACH; i++)
+        sprintf(many + strlen(many), "pmu%d::E%d,", i / EACH, i % EACH);
     setenv("PAPI_EVENTS", many, 1);
     setenv("KISTALUB_UNIT", in("unit"), 1);
     run(counts_a_region);
@@ -230,7 +235,8 @@ static void has_two(const char *rank, const char *first, const char *second, con
 
 /* The rank is that which the starter of an MPI program says. */
 static void ranks(void) {
-    static const char *const starters[] = { "OMPI_COMM_WORLD_RANK", "ALPS_APP_PE", "PMI_RANK", "SLURM_PROCID" };
+    static const char *const starters[] = { "OMPI_COMM_WORLD_RANK", "ALPS_APP_PE", "PMI_RANK",
+                                            "SLURM_PROCID" };
     for (int i = 0; i < 4; i++) {
         setenv(starters[i], "7", 1);
         run(counts_a_region);
@@ -238,8 +244,10 @@ static void ranks(void) {
         take_away("papi_hl_output");
         unsetenv(starters[i]);
     }
-    has_two("3", "papi_hl_output/rank_000003.json", "papi_hl_output/rank_000003-2.json", "papi_hl_output/rank_000004.json");
-    has_two("0", "papi_hl_output/rank_000000.json", "papi_hl_output/rank_000000-2.json", "papi_hl_output/rank_000001.json");
+    has_two("3", "papi_hl_output/rank_000003.json", "papi_hl_output/rank_000003-2.json",
+            "papi_hl_output/rank_000004.json");
+    has_two("0", "papi_hl_output/rank_000000.json", "papi_hl_output/rank_000000-2.json",
+            "papi_hl_output/rank_000001.json");
 }
 
 static struct rlimit room;
@@ -262,7 +270,8 @@ static void has_little_room(void) {
 static void full(void) {
     char line[1024];
     run(has_little_room);
-    snprintf(line, sizeof line, "kistalub: PAPI_OUTPUT_DIRECTORY: cannot write: %s\n", in("papi_hl_output/rank_000000.json"));
+    snprintf(line, sizeof line, "kistalub: PAPI_OUTPUT_DIRECTORY: cannot write: %s\n",
+             in("papi_hl_output/rank_000000.json"));
     WANT(times("said", line), 1);
     WANT(strcmp(text, line), 0);
     take_away("papi_hl_output");

@@ -1,4 +1,5 @@
-/* The high level: regions inside regions, readings, and what is written at the end; and the rates. */
+/* The high level: regions inside regions, readings, and what is written at the end; and the
+ * rates. */
 #define _DEFAULT_SOURCE
 #include "papi.h"
 #include "wanted.h"
@@ -43,7 +44,8 @@ int main(void) {
     WANT(mkdtemp(above) != NULL, 1);
     atexit(remove_output);
     setenv("PAPI_OUTPUT_DIRECTORY", above, 1);
-    setenv("PAPI_EVENTS", "PAPI_BR_PRC,PAPI_TOT_INS=delta, lab::BR_INST:TAKEN =instant,PAPI_FP_OPS", 1);
+    setenv("PAPI_EVENTS", "PAPI_BR_PRC,PAPI_TOT_INS=delta, lab::BR_INST:TAKEN =instant,PAPI_FP_OPS",
+           1);
     setenv("PAPI_REPORT", "1", 1);
     setenv("SLURM_PROCID", "3", 1);
     rates();

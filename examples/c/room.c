@@ -1,4 +1,5 @@
-/* A run into an array of fixed room: it stops if a passing more might find no place, and a further run goes on. */
+/* A run into an array of fixed room: it stops if a passing more might find no place, and a further
+ * run goes on. */
 #include "kistalub.h"
 #include "wanted.h"
 #include <stdlib.h>
@@ -21,7 +22,9 @@ int main(void) {
     if (!f) return 2;
     size_t length = fread(unit, 1, sizeof unit, f);
     fclose(f);
-    WANT(kistalub_open(&h, unit, length, none, 0, none, 0, 0, (const unsigned char *)stream, strlen(stream)), 0);
+    WANT(kistalub_open(&h, unit, length, none, 0, none, 0, 0, (const unsigned char *)stream,
+                       strlen(stream)),
+         0);
     WANT(kistalub_create(&h, &set), 0);
     WANT(kistalub_add_named(&h, set, (const unsigned char *)"INST_RETIRED", 12), 0);
     WANT(kistalub_overflow_named(&h, set, (const unsigned char *)"INST_RETIRED", 12, 1000), 0);
@@ -29,8 +32,10 @@ int main(void) {
     for (int i = 0; i < 3; i++) {
         memset(passings, 0x7f, sizeof passings);
         int code = kistalub_run(&h, left, &consumed, passings, room[i], &told, &fault);
-        printf("%d: %u of %u occurrences, %llu passings", code, (unsigned)consumed, (unsigned)left, (unsigned long long)told);
-        for (uint64_t k = 0; k < told; k++) printf(", at 0x%llx", (unsigned long long)passings[k].address);
+        printf("%d: %u of %u occurrences, %llu passings", code, (unsigned)consumed, (unsigned)left,
+               (unsigned long long)told);
+        for (uint64_t k = 0; k < told; k++)
+            printf(", at 0x%llx", (unsigned long long)passings[k].address);
         puts("");
         WANT(passings[told].set, 0x7f7f7f7f);
         left -= consumed;

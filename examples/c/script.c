@@ -1,8 +1,9 @@
 /* Makes the calls of a script through kistalub.h, and prints the replies as papi_run does.
  *
- *     script UNIT PRESETS CPU SCRIPT STREAM...
+ * script UNIT PRESETS CPU SCRIPT STREAM...
  *
- * PRESETS and CPU may be empty. Beside PAPI_ECNFLCT papi_run says which events clash; here that is left out. */
+ * PRESETS and CPU may be empty. Beside PAPI_ECNFLCT papi_run says which events clash; here that is
+ * left out. */
 #include "kistalub.h"
 #include <stdio.h>
 #include <stdlib.h>
@@ -47,11 +48,13 @@ static const char *code_name(int code) {
 static kistalub threads[64];
 static int registered[64];
 
-static int given(int (*call)(kistalub *, uint32_t, int64_t *, size_t, uint32_t *), kistalub *h, uint32_t set, char *rest) {
+static int given(int (*call)(kistalub *, uint32_t, int64_t *, size_t, uint32_t *), kistalub *h,
+                 uint32_t set, char *rest) {
     int64_t values[32];
     uint32_t count = 0;
     int code = call(h, set, values, 32, &count);
-    for (uint32_t i = 0; code == 0 && i < count; i++) rest += sprintf(rest, " %lld", (long long)values[i]);
+    for (uint32_t i = 0; code == 0 && i < count; i++)
+        rest += sprintf(rest, " %lld", (long long)values[i]);
     return code;
 }
 
@@ -75,23 +78,37 @@ static int listed(kistalub *h, uint32_t set, char *rest) {
 }
 
 /* Makes the call of a line; what follows the code goes into `rest`. */
-static int make(unsigned long thread, const char *call, const char *a, const char *b, const char *c, char *rest) {
+static int make(unsigned long thread, const char *call, const char *a, const char *b, const char *c,
+                char *rest) {
     kistalub *h = &threads[thread];
     uint32_t set = (uint32_t)strtoul(a, NULL, 10), number = (uint32_t)strtoul(b, NULL, 10), out = 0;
     const unsigned char *name = (const unsigned char *)b;
     int code = 0;
-    if (!strcmp(call, "register")) { code = kistalub_register(h); if (code == 0) registered[thread] = 1; return code; }
-    if (!strcmp(call, "unregister")) { code = kistalub_unregister(h); if (code == 0) registered[thread] = 0; return code; }
+    if (!strcmp(call, "register")) {
+        code = kistalub_register(h);
+        if (code == 0) registered[thread] = 1;
+        return code;
+    }
+    if (!strcmp(call, "unregister")) {
+        code = kistalub_unregister(h);
+        if (code == 0) registered[thread] = 0;
+        return code;
+    }
     if (!strcmp(call, "threads")) {
         for (int i = 0; i < 64; i++) if (registered[i]) rest += sprintf(rest, " %d", i);
         return 0;
     }
-    if (!strcmp(call, "create")) { code = kistalub_create(h, &out); if (code == 0) sprintf(rest, " %u", (unsigned)out); return code; }
+    if (!strcmp(call, "create")) {
+        code = kistalub_create(h, &out);
+        if (code == 0) sprintf(rest, " %u", (unsigned)out);
+        return code;
+    }
     if (!strcmp(call, "destroy")) return kistalub_destroy(h, set);
     if (!strcmp(call, "cleanup")) return kistalub_cleanup(h, set);
     if (!strcmp(call, "add")) return kistalub_add_named(h, set, name, strlen(b));
     if (!strcmp(call, "remove")) return kistalub_remove_named(h, set, name, strlen(b));
-    if (!strcmp(call, "overflow")) return kistalub_overflow_named(h, set, name, strlen(b), strtoull(c, NULL, 10));
+    if (!strcmp(call, "overflow"))
+        return kistalub_overflow_named(h, set, name, strlen(b), strtoull(c, NULL, 10));
     if (!strcmp(call, "component")) return kistalub_assign_component(h, set, number);
     if (!strcmp(call, "domain")) return kistalub_set_domain(h, set, number);
     if (!strcmp(call, "multiplex")) return kistalub_set_multiplex(h, set, number);
@@ -101,7 +118,11 @@ static int make(unsigned long thread, const char *call, const char *a, const cha
     if (!strcmp(call, "accum")) return given(kistalub_accum, h, set, rest);
     if (!strcmp(call, "reset")) return kistalub_reset(h, set);
     if (!strcmp(call, "events")) return listed(h, set, rest);
-    if (!strcmp(call, "state")) { code = kistalub_state(h, set, &out); if (code == 0) sprintf(rest, " 0x%02x", (unsigned)out); return code; }
+    if (!strcmp(call, "state")) {
+        code = kistalub_state(h, set, &out);
+        if (code == 0) sprintf(rest, " 0x%02x", (unsigned)out);
+        return code;
+    }
     if (!strcmp(call, "run")) {
         kistalub_passing passings[32];
         uint32_t consumed = 0;
@@ -133,13 +154,18 @@ int main(int argc, char **argv) {
     if (!script) return 2;
     for (unsigned t = 0; t < 64; t++) {
         text stream = file((int)t + 5 < argc ? argv[t + 5] : "");
-        int code = kistalub_open(&threads[t], unit.bytes, unit.length, presets.bytes, presets.length, (unsigned char *)argv[3], strlen(argv[3]), t, stream.bytes, stream.length);
+        int code = kistalub_open(&threads[t], unit.bytes, unit.length, presets.bytes,
+                                 presets.length, (unsigned char *)argv[3], strlen(argv[3]), t,
+                                 stream.bytes, stream.length);
         free(stream.bytes);
         if (code) { fprintf(stderr, "open: %s\n", code_name(code)); return 2; }
     }
     for (unsigned number = 1; fgets(line, sizeof line, script); number++) {
         char word[4][256] = { "", "", "", "" }, call[64] = "", rest[8192] = "";
-        if (sscanf(line, "%255s %63s %255s %255s %255s", word[0], call, word[1], word[2], word[3]) < 2 || word[0][0] == '#') continue;
+        if (sscanf(line, "%255s %63s %255s %255s %255s", word[0], call, word[1], word[2], word[3]) <
+                2 ||
+            word[0][0] == '#')
+            continue;
         unsigned long thread = strtoul(word[0], NULL, 10) & 63;
         int code = make(thread, call, word[1], word[2], word[3], rest);
         printf("%u %lu %s %s%s\n", number, thread, call, code_name(code), rest);

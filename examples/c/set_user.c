@@ -1,4 +1,5 @@
-/* A program that runs with another user's rights takes no file from its environment. The program itself is copied, and runs as nobody. */
+/* A program that runs with another user's rights takes no file from its environment. The program
+ * itself is copied, and runs as nobody. */
 #define _DEFAULT_SOURCE
 #include "papi.h"
 #include "wanted.h"
@@ -11,7 +12,8 @@
 #define NOBODY 65534
 #define SECURE 3
 
-/* Asked by AddressSanitizer, which cannot look for leaks in a process that has another user's rights. */
+/* Asked by AddressSanitizer, which cannot look for leaks in a process that has another user's
+ * rights. */
 int __lsan_is_turned_off(void);
 int __lsan_is_turned_off(void) { return getauxval(AT_SECURE) != 0; }
 
@@ -27,7 +29,9 @@ int main(int argc, char **argv) {
     int status = 0;
     if (argc == 2 && !strcmp(argv[1], "again")) {
         if (!getauxval(AT_SECURE)) return 0;
-        return PAPI_library_init(PAPI_VER_CURRENT) == PAPI_ESYS && PAPI_get_real_usec() == 0 ? SECURE : 1;
+        return PAPI_library_init(PAPI_VER_CURRENT) == PAPI_ESYS && PAPI_get_real_usec() == 0
+                   ? SECURE
+                   : 1;
     }
     WANT(PAPI_library_init(PAPI_VER_CURRENT), PAPI_VER_CURRENT);
     PAPI_shutdown();
@@ -47,7 +51,9 @@ int main(int argc, char **argv) {
     if (child > 0) WANT(waitpid(child, &status, 0), child);
     WANT(unlink(path) + rmdir(folder), 0);
     /* without root, or where no program has another user's rights, there is nothing to see */
-    WANT(child < 0 || (WIFEXITED(status) && (WEXITSTATUS(status) == SECURE || WEXITSTATUS(status) == 0)), 1);
+    WANT(child < 0 ||
+             (WIFEXITED(status) && (WEXITSTATUS(status) == SECURE || WEXITSTATUS(status) == 0)),
+         1);
     puts("its own environment is taken alone");
     return 0;
 }

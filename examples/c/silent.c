@@ -1,5 +1,6 @@
-/* A native event that no line of the stream counts for is told once, when a set with it is started; a preset's natives are too. Each allocation of such a life is
- * refused in turn: the call answers PAPI_ENOMEM, and nothing is left. With KISTALUB_HINTS=0 nothing is told. */
+/* A native event that no line of the stream counts for is told once, when a set with it is started;
+ * a preset's natives are too. Each allocation of such a life is refused in turn: the call answers
+ * PAPI_ENOMEM, and nothing is left. With KISTALUB_HINTS=0 nothing is told. */
 #define _DEFAULT_SOURCE
 #include "kistalub.h"
 #include "papi.h"
@@ -54,12 +55,14 @@ static int each_refused(void) {
     return refusals == k - 1 && refusals > 0;
 }
 
-/* A stream whose last line alone counts for an event, of which nothing is told, or does not count for it either. */
+/* A stream whose last line alone counts for an event, of which nothing is told, or does not count
+ * for it either. */
 static void with_stream(int others, const char *last, const char *name) {
     char path[] = "/tmp/kistalub_heads_XXXXXX";
     FILE *f = fdopen(mkstemp(path), "w");
     WANT(f != NULL, 1);
-    for (int head = 0; head < others; head++) fprintf(f, "0 %02x %02x u 1 1\n", 0x10 + head / 256, head % 256);
+    for (int head = 0; head < others; head++)
+        fprintf(f, "0 %02x %02x u 1 1\n", 0x10 + head / 256, head % 256);
     fputs(last, f);
     WANT(fclose(f), 0);
     setenv("KISTALUB_STREAM", path, 1);

@@ -1,4 +1,5 @@
-/* A handler of a signal has a stack of its own, above or below that of its thread. A handler of PAPI_overflow jumps out of it: time goes on after that. */
+/* A handler of a signal has a stack of its own, above or below that of its thread. A handler of
+ * PAPI_overflow jumps out of it: time goes on after that. */
 #define _DEFAULT_SOURCE
 #include "papi.h"
 #include "wanted.h"
@@ -64,7 +65,8 @@ static void count(PAPI_overflow_handler_t function) {
 }
 
 static void *work(void *other) {
-    const stack_t alternate = { .ss_sp = other, .ss_size = ROOM }, none = { .ss_flags = SS_DISABLE };
+    const stack_t alternate = { .ss_sp = other, .ss_size = ROOM },
+                  none = { .ss_flags = SS_DISABLE };
     long long values;
     uint32_t went = 0;
     WANT(sigaltstack(&alternate, NULL), 0);

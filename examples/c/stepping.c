@@ -1,4 +1,5 @@
-/* With KISTALUB_STEP a handler that reads does not go on: time stands in it. A stream that has grown since has its new lines for the threads that come. */
+/* With KISTALUB_STEP a handler that reads does not go on: time stands in it. A stream that has
+ * grown since has its new lines for the threads that come. */
 #include "papi.h"
 #include "wanted.h"
 #include <pthread.h>
@@ -21,7 +22,8 @@ static void handler(int set, void *address, long long vector, void *context) {
     calls++;
 }
 
-/* A stream of occurrences that each retire 255 instructions, or more of them behind those that are there. */
+/* A stream of occurrences that each retire 255 instructions, or more of them behind those that are
+ * there. */
 static void write_stream(const char *path, const char *how, int lines) {
     FILE *f = fopen(path, how);
     WANT(f != NULL, 1);

@@ -1,4 +1,5 @@
-/* Threads make calls, and begin and end the library, over and over again. Each call answers, and what a thread counts within one library is whole. */
+/* Threads make calls, and begin and end the library, over and over again. Each call answers, and
+ * what a thread counts within one library is whole. */
 #include "papi.h"
 #include "wanted.h"
 #include <pthread.h>
@@ -29,10 +30,13 @@ static void count(void) {
     if (code == PAPI_OK) code = kistalub_go(OCCURRENCES + 1, NULL);
     if (code == PAPI_OK) code = PAPI_stop(set, &value);
     if (code == PAPI_OK) {
-        WANT(value == 0 || value == OCCURRENCES * INSTRUCTIONS, 1); /* a thread's stream happens once in a library */
+        /* A thread's stream happens once in a library. */
+        WANT(value == 0 || value == OCCURRENCES * INSTRUCTIONS, 1);
         atomic_fetch_add(&counted, 1);
     }
-    WANT(code == PAPI_OK || code == PAPI_ENOINIT || code == PAPI_ENOEVST || code == PAPI_ENOEVNT || code == PAPI_ENOTRUN || code == PAPI_EINVAL, 1);
+    WANT(code == PAPI_OK || code == PAPI_ENOINIT || code == PAPI_ENOEVST || code == PAPI_ENOEVNT ||
+             code == PAPI_ENOTRUN || code == PAPI_EINVAL,
+         1);
     if (PAPI_cleanup_eventset(set) == PAPI_OK) PAPI_destroy_eventset(&set);
 }
 

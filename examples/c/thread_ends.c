@@ -1,4 +1,5 @@
-/* Threads end: their destructors count still, what they had is known by its number until it is destroyed, and they stay listed. */
+/* Threads end: their destructors count still, what they had is known by its number until it is
+ * destroyed, and they stay listed. */
 #include "papi.h"
 #include "wanted.h"
 #include <limits.h>
@@ -27,7 +28,8 @@ static int started(void) {
     return set;
 }
 
-/* A tool stops its set in a destructor of its own, in the first round or in a later one. In the first one it may do all else, too. */
+/* A tool stops its set in a destructor of its own, in the first round or in a later one. In the
+ * first one it may do all else, too. */
 static void stop_at_end(void *kept) {
     static _Thread_local int rounds;
     int event;
@@ -72,7 +74,8 @@ static void *leave_set(void *set) {
     return NULL;
 }
 
-/* A set of a thread that has ended is read and stopped by its number, and no other set has the number before it is destroyed. Who did that can be cancelled as before. */
+/* A set of a thread that has ended is read and stopped by its number, and no other set has the
+ * number before it is destroyed. Who did that can be cancelled as before. */
 static void by_number(void) {
     int left = PAPI_NULL, own, events[2], number = 2, status, cancelled = -1;
     long long count = 1;

@@ -11,9 +11,14 @@ static void handler(int, void *, long long, void *) {
 int main() {
     int set = PAPI_NULL, event, caught = 0;
     long long count = 0;
-    if (PAPI_library_init(PAPI_VER_CURRENT) != PAPI_VER_CURRENT || PAPI_create_eventset(&set) != PAPI_OK) return 1;
-    if (PAPI_event_name_to_code("INST_RETIRED", &event) != PAPI_OK || PAPI_add_event(set, event) != PAPI_OK) return 2;
-    if (PAPI_overflow(set, event, 256, 0, handler) != PAPI_OK || PAPI_start(set) != PAPI_OK) return 3;
+    if (PAPI_library_init(PAPI_VER_CURRENT) != PAPI_VER_CURRENT ||
+        PAPI_create_eventset(&set) != PAPI_OK)
+        return 1;
+    if (PAPI_event_name_to_code("INST_RETIRED", &event) != PAPI_OK ||
+        PAPI_add_event(set, event) != PAPI_OK)
+        return 2;
+    if (PAPI_overflow(set, event, 256, 0, handler) != PAPI_OK || PAPI_start(set) != PAPI_OK)
+        return 3;
     try {
         kistalub_go(8, nullptr);
     } catch (int number) {

@@ -1,4 +1,5 @@
-/* Sorts words: a program without a call of PAPI. With ANY_CASE it takes no notice of their case, which is the change that is judged. */
+/* Sorts words: a program without a call of PAPI. With ANY_CASE it takes no notice of their case,
+ * which is the change that is judged. */
 #include <stdio.h>
 #include <stdlib.h>
 #include <string.h>

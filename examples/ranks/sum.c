@@ -1,5 +1,5 @@
-/* Each rank adds its part of a series, and counts what it does for that. With MPI (-DWITH_MPI) the launcher says the rank, and rank 0 has the whole sum;
- * without it the first word does. */
+/* Each rank adds its part of a series, and counts what it does for that. With MPI (-DWITH_MPI) the
+ * launcher says the rank, and rank 0 has the whole sum; without it the first word does. */
 #include <papi.h>
 #include <stdio.h>
 #include <stdlib.h>
@@ -22,13 +22,16 @@ __attribute__((noinline)) static double add_terms(int terms) {
 static double count_terms(int rank) {
     int set = PAPI_NULL;
     long long counts[EVENTS];
-    if (PAPI_library_init(PAPI_VER_CURRENT) != PAPI_VER_CURRENT || PAPI_create_eventset(&set) != PAPI_OK) exit(2);
+    if (PAPI_library_init(PAPI_VER_CURRENT) != PAPI_VER_CURRENT ||
+        PAPI_create_eventset(&set) != PAPI_OK)
+        exit(2);
     for (int i = 0; i < EVENTS; i++)
         if (PAPI_add_named_event(set, events[i]) != PAPI_OK) exit(3);
     if (PAPI_start(set) != PAPI_OK) exit(4);
     double sum = add_terms(TERMS * (rank + 1));
     if (PAPI_stop(set, counts) != PAPI_OK) exit(5);
-    printf("rank %d: %lld instructions, %lld operations, %lld branches\n", rank, counts[0], counts[1], counts[2]);
+    printf("rank %d: %lld instructions, %lld operations, %lld branches\n", rank, counts[0],
+           counts[1], counts[2]);
     return sum;
 }
 

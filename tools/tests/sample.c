@@ -1,4 +1,5 @@
-/* A program without a library: it fills eight lines of 64 bytes, and reads one byte of each twice. The sum of these is 1,536. */
+/* A program without a library: it fills eight lines of 64 bytes, and reads one byte of each twice.
+ * The sum of these is 1,536. */
 static volatile unsigned char block[512] __attribute__((aligned(64)));
 
 __attribute__((noinline)) void fill(void) {
