@@ -187,13 +187,11 @@ PRESETS: dict[str, Preset] = {
 # tools/make_presets: begin
 PRESET_CODES = {
     "PAPI_L1_DCM": 0x00, "PAPI_L1_ICM": 0x01, "PAPI_L2_DCM": 0x02, "PAPI_L2_ICM": 0x03,
-    "PAPI_L1_TCM": 0x06, "PAPI_L2_TCM": 0x07,
-    "PAPI_L3_TCM": 0x08, "PAPI_TLB_DM": 0x14, "PAPI_TLB_IM": 0x15, "PAPI_L1_LDM": 0x17,
-    "PAPI_L1_STM": 0x18, "PAPI_BR_UCN": 0x2A,
+    "PAPI_L1_TCM": 0x06, "PAPI_L2_TCM": 0x07, "PAPI_L3_TCM": 0x08, "PAPI_TLB_DM": 0x14,
+    "PAPI_TLB_IM": 0x15, "PAPI_L1_LDM": 0x17, "PAPI_L1_STM": 0x18, "PAPI_BR_UCN": 0x2A,
     "PAPI_BR_CN": 0x2B, "PAPI_BR_TKN": 0x2C, "PAPI_BR_NTK": 0x2D, "PAPI_BR_MSP": 0x2E,
-    "PAPI_BR_PRC": 0x2F, "PAPI_TOT_INS": 0x32,
-    "PAPI_LD_INS": 0x35, "PAPI_SR_INS": 0x36, "PAPI_BR_INS": 0x37, "PAPI_RES_STL": 0x39,
-    "PAPI_TOT_CYC": 0x3B, "PAPI_LST_INS": 0x3C,
+    "PAPI_BR_PRC": 0x2F, "PAPI_TOT_INS": 0x32, "PAPI_LD_INS": 0x35, "PAPI_SR_INS": 0x36,
+    "PAPI_BR_INS": 0x37, "PAPI_RES_STL": 0x39, "PAPI_TOT_CYC": 0x3B, "PAPI_LST_INS": 0x3C,
     "PAPI_FP_OPS": 0x66, "PAPI_REF_CYC": 0x6B,
 }
 # tools/make_presets: end

@@ -30,9 +30,8 @@ ENDS = ["\n", "\n", "\n", "\n", "\n", "\r\n", "\r", "", "\n\n"]
 # tools/make_presets: begin
 SYMBOLS = (
     "PAPI_L1_DCM", "PAPI_L1_ICM", "PAPI_L2_DCM", "PAPI_L2_ICM", "PAPI_L1_TCM", "PAPI_L2_TCM",
-    "PAPI_L3_TCM", "PAPI_TLB_DM", "PAPI_TLB_IM",
-    "PAPI_L1_LDM", "PAPI_L1_STM", "PAPI_BR_UCN", "PAPI_BR_CN", "PAPI_BR_TKN", "PAPI_BR_NTK",
-    "PAPI_BR_MSP", "PAPI_BR_PRC", "PAPI_TOT_INS",
+    "PAPI_L3_TCM", "PAPI_TLB_DM", "PAPI_TLB_IM", "PAPI_L1_LDM", "PAPI_L1_STM", "PAPI_BR_UCN",
+    "PAPI_BR_CN", "PAPI_BR_TKN", "PAPI_BR_NTK", "PAPI_BR_MSP", "PAPI_BR_PRC", "PAPI_TOT_INS",
     "PAPI_LD_INS", "PAPI_SR_INS", "PAPI_BR_INS", "PAPI_RES_STL", "PAPI_TOT_CYC", "PAPI_LST_INS",
     "PAPI_FP_OPS", "PAPI_REF_CYC",
 )

@@ -354,7 +354,7 @@ def argument_lines(calls: list[Call]) -> list[str]:
     pairs = [f'"{call.word}":~{_tuple(call.arguments)},' for call in calls]
     return [
         "CALLS: dict[str, tuple[str, ...]] = {",
-        *[line.replace("~", " ") for line in filled(pairs, 140)], "}",
+        *[line.replace("~", " ") for line in filled(pairs, 100)], "}",
     ]
 
 
@@ -367,7 +367,7 @@ def rule_lines(calls: list[Call]) -> list[str]:
     """A dictionary of the refusals of each call. A long text is several, one after another."""
     lines = []
     for call in calls:
-        parts = filled([f'    "{call.word}": "{call.refusals}",'], 156, "")
+        parts = filled([f'    "{call.word}": "{call.refusals}",'], 93, "")
         lines += [f'{part} "' for part in parts[:-1]] + parts[-1:]
     return ["RULES = {", *(line if line.startswith(" ") else f'    "{line}' for line in lines), "}"]
 

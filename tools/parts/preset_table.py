@@ -122,18 +122,18 @@ def definition_lines(presets: list[Preset]) -> list[str]:
 def modelled_lines(presets: list[Preset]) -> list[str]:
     return [
         "static const int modelled[] = {",
-        *filled([f"{preset.symbol}," for preset in presets], 140), "};",
+        *filled([f"{preset.symbol}," for preset in presets], 100), "};",
     ]
 
 
 def symbol_lines(presets: list[Preset]) -> list[str]:
-    return ["SYMBOLS = (", *filled([f'"{preset.symbol}",' for preset in presets], 140), ")"]
+    return ["SYMBOLS = (", *filled([f'"{preset.symbol}",' for preset in presets], 100), ")"]
 
 
 def number_lines(presets: list[Preset]) -> list[str]:
     """Symbols with the number that each has in PAPI's list, which is its code without bit 31."""
     pairs = [f'"{preset.symbol}":~0x{int(preset.code, 16) - 0x80000000:02X},' for preset in presets]
-    return ["PRESET_CODES = {", *[line.replace("~", " ") for line in filled(pairs, 140)], "}"]
+    return ["PRESET_CODES = {", *[line.replace("~", " ") for line in filled(pairs, 100)], "}"]
 
 
 def document_lines(presets: list[Preset]) -> list[str]:

@@ -1,5 +1,7 @@
-/* c/live_counts.c over a core that takes so many lines and no more, and passes a threshold with each line if it is told so: live_hands ROOM [jump | leave | turns]
- * It prints each line that happened, by its kind and amount, and a point behind each call. */
+/* c/live_counts.c over a core that takes so many lines and no more, and passes a threshold with
+ * each line if it is told so: live_hands ROOM [jump | leave | turns] It prints each line that
+ * happened, by its kind and amount, and a point behind each call. */
+#include "../../c/posix.h"
 #include "../../c/holds.h"
 #include "../../c/limits.h"
 #include "../../c/live_thread.h"
@@ -15,7 +17,9 @@
 
 #define CALLS 3
 
-static const kind_codes codes[LINE_KINDS] = { [KL_LOADS] = { 1, { { 'l', 1 } } }, [KL_STORES] = { 2, { { 's', 1 }, { 't', 1 } } } };
+static const kind_codes codes[LINE_KINDS] = {
+    [KL_LOADS] = { 1, { { 'l', 1 } } }, [KL_STORES] = { 2, { { 's', 1 }, { 't', 1 } } }
+};
 static uint64_t room_of_thread;
 static const char *mode = "";
 static jmp_buf before_call;
@@ -24,8 +28,12 @@ static int is_in_core;
 int kl_core_begins(thread_state *t) { return t && !is_in_core++; }
 void kl_core_ends(thread_state *t) { is_in_core -= t != NULL; }
 int kl_hold_on(thread_state *t, const kl_hold *hold) { return t && hold ? 5 : 0; }
-int kl_let_go(thread_state *t, int place) { return t->has_left || place != 5 ? PAPI_ENOINIT : PAPI_OK; }
-void kl_keep_adds(thread_state *t, const kistalub_occurrences *what, uint32_t amount) { (void)t, (void)what, (void)amount; }
+int kl_let_go(thread_state *t, int place) {
+    return t->has_left || place != 5 ? PAPI_ENOINIT : PAPI_OK;
+}
+void kl_keep_adds(thread_state *t, const kistalub_occurrences *what, uint32_t amount) {
+    (void)t, (void)what, (void)amount;
+}
 void kl_keep_writes(thread_state *t) { (void)t; }
 
 void kl_tell(thread_state *t, const kistalub_passing *passings, uint64_t told) {
@@ -34,12 +42,16 @@ void kl_tell(thread_state *t, const kistalub_passing *passings, uint64_t told) {
     t->has_left = !strcmp(mode, "leave");
 }
 
-int kistalub_happen(kistalub *h, const kistalub_occurrences *what, uint32_t *went, kistalub_passing *passings, size_t room, uint64_t *told) {
+int kistalub_happen(kistalub *h, const kistalub_occurrences *what, uint32_t *went,
+                    kistalub_passing *passings, size_t room, uint64_t *told) {
     const int tells = !strcmp(mode, "jump") || !strcmp(mode, "leave");
-    if (!h || !is_in_core || room != MOST_EVENTS || what->component || what->kernel || what->umask != 1) exit(4);
+    if (!h || !is_in_core || room != MOST_EVENTS || what->component || what->kernel ||
+        what->umask != 1)
+        exit(4);
     *told = 0;
     for (*went = 0; *went < what->amount;) {
-        uint32_t left = what->amount - *went, amount = left < LARGEST_AMOUNT ? left : LARGEST_AMOUNT;
+        uint32_t left = what->amount - *went,
+                 amount = left < LARGEST_AMOUNT ? left : LARGEST_AMOUNT;
         if (*told) return PAPI_EBUF;
         if (!room_of_thread--) return room_of_thread = 0, PAPI_EINVAL;
         printf("%c%u ", what->select, amount);
@@ -50,11 +62,13 @@ int kistalub_happen(kistalub *h, const kistalub_occurrences *what, uint32_t *wen
 }
 
 static void call(thread_state *t) {
-    if (setjmp(before_call) == 0 && !t->has_left && !t->live->has_ended && kl_core_begins(t)) kl_happen(t, KL_BIT(KL_LOADS) | KL_BIT(KL_STORES), 7);
+    if (setjmp(before_call) == 0 && !t->has_left && !t->live->has_ended && kl_core_begins(t))
+        kl_happen(t, KL_BIT(KL_LOADS) | KL_BIT(KL_STORES), 7);
     fputs(". ", stdout);
 }
 
-/* Before each call a thread has done some of both kinds. Calls that are jumped out of leave some to the next ones. */
+/* Before each call a thread has done some of both kinds. Calls that are jumped out of leave some to
+ * the next ones. */
 int main(int count, char **words) {
     static live_thread live = { .codes = codes };
     static thread_state thread = { .number = 3, .live = &live };
@@ -68,6 +82,8 @@ int main(int count, char **words) {
         live.left[KL_STORES][1] += live.is_in_turns ? 2 * LARGEST_AMOUNT : 3;
         call(&thread);
     }
-    while (!strcmp(mode, "jump") && (live.left[KL_LOADS][0] || live.left[KL_STORES][0] || live.left[KL_STORES][1])) call(&thread);
+    while (!strcmp(mode, "jump") &&
+           (live.left[KL_LOADS][0] || live.left[KL_STORES][0] || live.left[KL_STORES][1]))
+        call(&thread);
     return 0;
 }

@@ -33,20 +33,16 @@ RULES = {
     "create": "ECOUNT: 64 sets",
     "destroy": "ENOEVST, EISRUN, EINVAL: it has events",
     "cleanup": "ENOEVST, EISRUN",
-    "add": (
-        "ENOEVST, EISRUN, the name's code, EINVAL: another component's, or in the set; ECOUNT: "
-        "more than 32 events or native events; ECNFLCT"
-    ),
+    "add": "ENOEVST, EISRUN, the name's code, EINVAL: another component's, or in the set; "
+    "ECOUNT: more than 32 events or native events; ECNFLCT",
     "remove": "ENOEVST, EISRUN, the name's code, EINVAL: not in the set",
     "component": "ENOEVST, ENOCMP: no such component; EISRUN, EINVAL: it has another one",
     "domain": "ENOEVST, EISRUN, EINVAL: not 1, 2 or 3",
-    "multiplex": (
-        "ENOEVST, EISRUN, EINVAL: not from 1 to 1,000,000 ticks; ECOMBO: a threshold is set"
-    ),
+    "multiplex": "ENOEVST, EISRUN, EINVAL: not from 1 to 1,000,000 ticks; ECOMBO: a threshold "
+    "is set",
     "overflow": "ENOEVST, EISRUN, the name's code, EINVAL: not in the set, or derived, or the "
-    "threshold neither 0 nor from 256 to the last value of the "
-    "component's narrowest register, or another event's threshold is on the same native event; "
-    "ECOMBO: multiplexed",
+    "threshold neither 0 nor from 256 to the last value of the component's narrowest register, or "
+    "another event's threshold is on the same native event; ECOMBO: multiplexed",
     "start": "ENOEVST, EISRUN: it or another set of its component; EINVAL: no events",
     "stop": "ENOEVST, ENOTRUN",
     "read": "ENOEVST",
@@ -55,16 +51,12 @@ RULES = {
     "state": "ENOEVST",
     "events": "ENOEVST",
     "assign": "ENOEVST, ECOMBO: multiplexed",
-    "raw": (
-        "ENOEVST, ENOTRUN, EINVAL: the component lacks the counter; ECOMBO: multiplexed; EINVAL: "
-        "no native event of the set is on the counter"
-    ),
+    "raw": "ENOEVST, ENOTRUN, EINVAL: the component lacks the counter; ECOMBO: multiplexed; "
+    "EINVAL: no native event of the set is on the counter",
     "run": "none; ESYS is not a refusal",
     "code": "the name's code",
-    "name": (
-        "ENOEVNT: no preset and no user event has the code, and no native event that was mentioned "
-        "so far"
-    ),
+    "name": "ENOEVNT: no preset and no user event has the code, and no native event that was "
+    "mentioned so far",
 }
 # tools/make_calls: end
 MEANINGS = {

@@ -14,13 +14,11 @@ from .texts import near, shown
 # tools/make_calls: begin
 CALLS: dict[str, tuple[str, ...]] = {
     "register": (), "unregister": (), "threads": (), "create": (), "destroy": ("SET",),
-    "cleanup": ("SET",), "add": ("SET", "EVENT"),
-    "remove": ("SET", "EVENT"), "component": ("SET", "COMPONENT"), "domain": ("SET", "BITS"),
-    "multiplex": ("SET", "SLICE"),
+    "cleanup": ("SET",), "add": ("SET", "EVENT"), "remove": ("SET", "EVENT"),
+    "component": ("SET", "COMPONENT"), "domain": ("SET", "BITS"), "multiplex": ("SET", "SLICE"),
     "overflow": ("SET", "EVENT", "THRESHOLD"), "start": ("SET",), "stop": ("SET",),
-    "read": ("SET",), "accum": ("SET",), "reset": ("SET",),
-    "state": ("SET",), "events": ("SET",), "assign": ("SET",), "raw": ("SET", "COUNTER"),
-    "run": ("N",), "code": ("EVENT",),
+    "read": ("SET",), "accum": ("SET",), "reset": ("SET",), "state": ("SET",), "events": ("SET",),
+    "assign": ("SET",), "raw": ("SET", "COUNTER"), "run": ("N",), "code": ("EVENT",),
     "name": ("CODE",),
 }
 # tools/make_calls: end
