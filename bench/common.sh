@@ -1,4 +1,5 @@
-# What the benchmarks share. Each reads it by '.', with its own folder in `here` and its name in `name`.
+# What the benchmarks share. Each reads it by '.', with its own folder in `here` and its name in
+# `name`.
 # shellcheck shell=sh disable=SC2154
 
 # Ends with 1, and says why.
@@ -27,7 +28,8 @@ enter_folder() {
     cd "$folder" || exit 1
 }
 
-# The seconds of one run of a command, whose standard output goes to the file `said`. Gives the command's status.
+# The seconds of one run of a command, whose standard output goes to the file `said`. Gives the
+# command's status.
 seconds() {
     begun=$(date +%s.%N)
     ended_with=0
@@ -37,8 +39,9 @@ seconds() {
     return "$ended_with"
 }
 
-# The processor's seconds of one run of a command, in it and in the system for it, whose standard output goes to the file `said`. Gives
-# the command's status. Needs bash, which counts thousandths. What else runs on the machine takes little part in them.
+# The processor's seconds of one run of a command, in it and in the system for it, whose standard
+# output goes to the file `said`. Gives the command's status. Needs bash, which counts thousandths.
+# What else runs on the machine takes little part in them.
 processor_seconds() {
     ended_with=0
     bash -c 'TIMEFORMAT="%U %S"; { time "$@" >said 2>said.errors; } 2>used' - "$@" || ended_with=$?
@@ -46,7 +49,8 @@ processor_seconds() {
     return "$ended_with"
 }
 
-# The most memory that was resident in one run of a command, in MB, or `-` where there is no GNU time.
+# The most memory that was resident in one run of a command, in MB, or `-` where there is no GNU
+# time.
 peak() {
     if [ -x /usr/bin/time ]; then
         /usr/bin/time -q -f %M -o peak.kb "$@" >said 2>/dev/null || :

@@ -1,6 +1,8 @@
-# The rows of bench/run, which reads this by '.'. Each function makes the files of its row, and measures. `lines` are the lines of a stream.
+# The rows of bench/run, which reads this by '.'. Each function makes the files of its row, and
+# measures. `lines` are the lines of a stream.
 # shellcheck shell=sh disable=SC2154,SC2034
-rows='nothing three branches thresholds alike one turns components stamps returns comments threads rounds accum presets regions profil library'
+rows='nothing three branches thresholds alike one turns components stamps returns comments threads'
+rows="$rows rounds accum presets regions profil library"
 
 # A script has at most 100,000 calls, of which those of 32 events, a beginning and an end take some.
 most_rounds=49990
@@ -47,7 +49,8 @@ many_unit() {
 # Eight presets over the 32 native events of the unit `many`: sums and differences of four.
 many_presets() {
     awk 'BEGIN {
-        split("PAPI_L1_DCM PAPI_L1_ICM PAPI_L2_DCM PAPI_L2_ICM PAPI_L1_TCM PAPI_L2_TCM PAPI_L3_TCM PAPI_TLB_DM", symbols)
+        split("PAPI_L1_DCM PAPI_L1_ICM PAPI_L2_DCM PAPI_L2_ICM PAPI_L1_TCM PAPI_L2_TCM " \
+            "PAPI_L3_TCM PAPI_TLB_DM", symbols)
         print "CPU,many"
         for (i = 0; i < 8; i++) {
             printf "PRESET,%s,DERIVED_%s", symbols[i + 1], i % 2 ? "SUB" : "ADD"
@@ -61,9 +64,13 @@ plain() {
     [ -f plain.stream ] || ./generate "$lines" >plain.stream
 }
 
-# What the replies of `run`, `read` and `stop` have after their codes, a line each, as `count` prints it.
+# What the replies of `run`, `read` and `stop` have after their codes, a line each, as `count`
+# prints it.
 results() {
-    awk '$3 == "run" || $3 == "read" || $3 == "stop" { sub(/^[^ ]+ [^ ]+ [^ ]+ PAPI_OK ?/, ""); print }' "$1"
+    awk '$3 == "run" || $3 == "read" || $3 == "stop" {
+        sub(/^[^ ]+ [^ ]+ [^ ]+ PAPI_OK ?/, "")
+        print
+    }' "$1"
 }
 
 # Prints a row of papi_run beside a kind of work of `count`: counted TEXT KIND UNIT SCRIPT STREAM..
@@ -90,7 +97,8 @@ called() {
     measure "$(wc -l <"$3")"
 }
 
-# Measures what `by_hand`, `command` and `streams` say, and compares the output of the one with what `show` makes of the other's.
+# Measures what `by_hand`, `command` and `streams` say, and compares the output of the one with what
+# `show` makes of the other's.
 measure() {
     measured=$1
     : >by_hand.times
@@ -129,7 +137,8 @@ measure_once() {
 
 # The instructions of a command by callgrind.
 count_instructions() {
-    valgrind --tool=callgrind --callgrind-out-file=/dev/null "$@" 2>&1 >/dev/null | awk '/Collected/ { print $NF }'
+    valgrind --tool=callgrind --callgrind-out-file=/dev/null "$@" 2>&1 >/dev/null |
+        awk '/Collected/ { print $NF }'
 }
 
 # Those of the program by hand, or `-` if there is none, and of the program.
@@ -145,13 +154,19 @@ median_or_none() {
 }
 
 print_row() {
-    echo "$(median_or_none by_hand.times) $(median_or_none program.times) $(median_or_none wc.times) $(median_or_none cat.times) $counts" | tr '\n' ' ' |
+    echo "$(median_or_none by_hand.times) $(median_or_none program.times)" \
+        "$(median_or_none wc.times) $(median_or_none cat.times) $counts" | tr '\n' ' ' |
         awk -v text="$text" -v lines="$measured" '
-            function speed(t) { return t == "-" ? sprintf("%18s", "-") : sprintf("%6.3f s %5.1f M/s", t, t > 0 ? lines / t / 1000000 : 0) }
+            function speed(t) {
+                if (t == "-") return sprintf("%18s", "-")
+                return sprintf("%6.3f s %5.1f M/s", t, t > 0 ? lines / t / 1000000 : 0)
+            }
             function ratio(a, b) { return a == "-" || b <= 0 ? "-" : sprintf("%.2f", a / b) }
             {
-                printf "%-48s %9d  %s  %s  %5s  %7s  %7s", text, lines, speed($1), speed($2), ratio($1, $2), $3, $4
-                for (i = 5; i <= NF; i++) printf "  %6s", $i == "-" ? "-" : sprintf("%.1f", $i / lines)
+                printf "%-48s %9d  %s  %s  %5s  %7s  %7s", text, lines, speed($1), speed($2),
+                    ratio($1, $2), $3, $4
+                for (i = 5; i <= NF; i++)
+                    printf "  %6s", $i == "-" ? "-" : sprintf("%.1f", $i / lines)
                 print ""
             }'
 }
@@ -176,7 +191,8 @@ row_branches() {
 
 row_thresholds() {
     plain
-    calls create 'add 0 INST_RETIRED' 'add 0 CYCLES' 'add 0 BR_INST' 'overflow 0 INST_RETIRED 1000' 'overflow 0 CYCLES 1000' \
+    calls create 'add 0 INST_RETIRED' 'add 0 CYCLES' 'add 0 BR_INST' \
+        'overflow 0 INST_RETIRED 1000' 'overflow 0 CYCLES 1000' \
         'overflow 0 BR_INST 1000' 'start 0' "run $lines" 'stop 0' >script
     counted 'three events, each with a threshold of 1,000' thresholds lab.unit script plain.stream
 }
@@ -197,16 +213,23 @@ row_one() {
 
 row_turns() {
     plain
-    calls create 'multiplex 0 1000' 'add 0 INST_RETIRED' 'add 0 CYCLES' 'add 0 BR_INST' 'add 0 BR_MISP' 'add 0 CACHE' \
+    calls create 'multiplex 0 1000' 'add 0 INST_RETIRED' 'add 0 CYCLES' 'add 0 BR_INST' \
+        'add 0 BR_MISP' 'add 0 CACHE' \
         'add 0 INST_RETIRED:k' 'start 0' "run $lines" 'stop 0' >script
     counted 'six events multiplexed, slice 1,000' turns lab.unit script plain.stream
 }
 
 row_components() {
     ./generate "$lines" 1 components >components.stream
-    awk 'BEGIN { for (i = 0; i < 16; i++) printf "COMPONENT,c%d,p%d\nCOUNTER,C0,48,P\nEVENT,INST,c0,C0,Instructions retired\n", i, i }' >components.unit
+    awk 'BEGIN {
+        for (i = 0; i < 16; i++)
+            printf "COMPONENT,c%d,p%d\nCOUNTER,C0,48,P\nEVENT,INST,c0,C0,%s\n", i, i,
+                "Instructions retired"
+    }' >components.unit
     {
-        awk 'BEGIN { for (i = 0; i < 16; i++) printf "0 create\n0 add %d p%d::INST\n0 start %d\n", i, i, i }'
+        awk 'BEGIN {
+            for (i = 0; i < 16; i++) printf "0 create\n0 add %d p%d::INST\n0 start %d\n", i, i, i
+        }'
         calls "run $lines"
         awk 'BEGIN { for (i = 0; i < 16; i++) printf "0 stop %d\n", i }'
     } >script
@@ -230,7 +253,8 @@ row_returns() {
 
 row_comments() {
     plain
-    head -n "$((lines / 2))" plain.stream | awk '{ print "# an occurrence:"; print }' >comments.stream
+    head -n "$((lines / 2))" plain.stream |
+        awk '{ print "# an occurrence:"; print }' >comments.stream
     { begin_three && calls "run $lines" 'stop 0'; } >script
     counted 'a comment every second line, three events' three lab.unit script comments.stream
 }
@@ -244,7 +268,8 @@ row_threads() {
         { begin_three && calls "run $lines" 'stop 0'; } | sed "s/^0 /$thread /"
     done >script
     timer=seconds
-    counted 'four threads on four workers (seconds that pass)' three lab.unit '--workers 4 script' thread0.stream thread1.stream thread2.stream thread3.stream
+    counted 'four threads on four workers (seconds that pass)' three lab.unit '--workers 4 script' \
+        thread0.stream thread1.stream thread2.stream thread3.stream
 }
 
 row_rounds() {
@@ -289,7 +314,8 @@ row_presets() {
 
 # (no run has an occurrence, so that all counts are 0)
 row_regions() {
-    awk -v n="$region_count" 'BEGIN { for (i = 0; i < n; i++) printf "0 begin r%d\n0 end r%d\n", i, i }' >script
+    awk -v n="$region_count" \
+        'BEGIN { for (i = 0; i < n; i++) printf "0 begin r%d\n0 end r%d\n", i, i }' >script
     awk -v n="$region_count" 'BEGIN { for (i = 0; i < n; i++) printf "0 r%d 1 0 0 0\n", i }' >wanted
     text="papi_regions, $region_count regions"
     by_hand=
@@ -299,10 +325,13 @@ row_regions() {
     measure "$((2 * region_count))"
 }
 
-# Each amount is 255 and the threshold 256, so that nearly each occurrence passes it: n of them are passed by 256 n / 255, rounded up.
+# Each amount is 255 and the threshold 256, so that nearly each occurrence passes it: n of them are
+# passed by 256 n / 255, rounded up.
 row_profil() {
     count=$(((256 * note_count + 254) / 255))
-    awk -v n="$count" 'BEGIN { for (i = 0; i < n; i++) printf "0 c0 00 u 255 %x\n", 4194304 + i * 40503 % 65536 * 16 }' >profil.stream
+    awk -v n="$count" 'BEGIN {
+        for (i = 0; i < n; i++) printf "0 c0 00 u 255 %x\n", 4194304 + i * 40503 % 65536 * 16
+    }' >profil.stream
     echo 'RANGE,code,0x400000,16,65536' >profil.map
     calls create 'add 0 INST_RETIRED' 'overflow 0 INST_RETIRED 256' 'start 0' "run $count" >script
     text="papi_profil, $note_count notes in 65,536 buckets"
@@ -319,8 +348,10 @@ row_library() {
         return
     fi
     "$here/../c/build" library "$archive"
-    "${CC:-cc}" -std=c11 -D_POSIX_C_SOURCE=200809L -O2 -I"$here/../include" -o readings "$here/readings.c" library/libkistalub.a -lpthread
-    "${CC:-cc}" -std=c11 -D_POSIX_C_SOURCE=200809L -O2 -I"$here/../include" -o readings_by_hand "$here/readings.c" "$here/by_hand.c"
+    "${CC:-cc}" -std=c11 -D_POSIX_C_SOURCE=200809L -O2 -I"$here/../include" -o readings \
+        "$here/readings.c" library/libkistalub.a -lpthread
+    "${CC:-cc}" -std=c11 -D_POSIX_C_SOURCE=200809L -O2 -I"$here/../include" -o readings_by_hand \
+        "$here/readings.c" "$here/by_hand.c"
     ./generate "$((reading_count + 1))" >readings.stream
     text="library for C, $reading_count PAPI_read, step 1"
     by_hand='./readings_by_hand lab.unit readings.stream'

@@ -1,12 +1,17 @@
-# Read by scripts that make a folder or start a program: none is left when the script ends, whatever ends it.
+# Read by scripts that make a folder or start a program: none is left when the script ends, whatever
+# ends it.
 #
-# guarded_folder WORD.. sets `guarded` to a new folder, by `mktemp -d WORD..`. A process beside the script removes it when the script is gone. It knows that by a fifo
-# which the script alone holds open, by the descriptor `hold`, and it ends the program whose number the script has written there. It fails where there is no such folder.
-# end_by_signals has any signal end the script with a status of its own, so that a trap of EXIT takes the folder away at once.
+# guarded_folder WORD.. sets `guarded` to a new folder, by `mktemp -d WORD..`. A process beside the
+# script removes it when the script is gone. It knows that by a fifo which the script alone holds
+# open, by the descriptor `hold`, and it ends the program whose number the script has written there.
+# It fails where there is no such folder.
+# end_by_signals has any signal end the script with a status of its own, so that a trap of EXIT
+# takes the folder away at once.
 
 # All signals that end a process, but for the one that can't be caught.
 ENDING="1 2 3 4 5 6 7 8 10 11 12 13 14 15 16 24 25 26 27 29 30 31"
-ENDING="$ENDING 34 35 36 37 38 39 40 41 42 43 44 45 46 47 48 49 50 51 52 53 54 55 56 57 58 59 60 61 62 63 64"
+ENDING="$ENDING 34 35 36 37 38 39 40 41 42 43 44 45 46 47 48 49 50 51 52 53 54 55 56 57 58 59 60"
+ENDING="$ENDING 61 62 63 64"
 
 guarded=
 
@@ -44,7 +49,8 @@ guarded_folder() {
     fi
 }
 
-# Waits until the script is gone, which tells the number of a program that runs, or nothing when it has ended.
+# Waits until the script is gone, which tells the number of a program that runs, or nothing when it
+# has ended.
 guard() {
     ignore_signals
     program=

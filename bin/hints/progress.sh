@@ -1,9 +1,12 @@
 # Read by with_hints.sh, if standard error is a terminal.
 #
-# relay_with_line passes on what comes through a fifo. If a run takes more than half a second a line stands on the terminal (descriptor 8) until then: how long it has
-# taken, and how much of the streams was read. The line goes when the first byte comes, or the end, or a signal to terminate, which ends all that was started here.
+# relay_with_line passes on what comes through a fifo. If a run takes more than half a second a line
+# stands on the terminal (descriptor 8) until then: how long it has taken, and how much of the
+# streams was read. The line goes when the first byte comes, or the end, or a signal to terminate,
+# which ends all that was started here.
 
-# How much of its streams a process has read: nothing if that can't be told. These are the files that it has open beside the standard streams.
+# How much of its streams a process has read: nothing if that can't be told. These are the files
+# that it has open beside the standard streams.
 part_read() {
     place=0 size=0
     for link in /proc/"$1"/fd/*; do
@@ -25,7 +28,8 @@ is_program() {
     esac
 }
 
-# Writes the line again and again until it is told to end, or the shell that runs the tool is gone. Then the line goes, if there was one.
+# Writes the line again and again until it is told to end, or the shell that runs the tool is gone.
+# Then the line goes, if there was one.
 tick() {
     begun=$(date +%s)
     shown=
@@ -37,7 +41,8 @@ tick() {
         waiting=$!
         wait "$waiting"
         part=
-        ! read -r process <"$folder/process" || ! is_program "$process" || part=$(part_read "$process")
+        ! read -r process <"$folder/process" || ! is_program "$process" ||
+            part=$(part_read "$process")
         shown=1
         printf '\r%s: %s s%s\033[K' "$tool" "$(($(date +%s) - begun))" "$part"
         pause=1

@@ -1,7 +1,9 @@
 # Read by with_hints.sh, when a tool that counts has ended with 0.
 #
-# may_be_silent TOOL WORD.. says quickly, without Python, whether a native event of the words may be one for which no line of the streams counts, or which counts
-# something else in a recording. It is never wrong when it says no. The script, the presets and the unit are read by awk, which writes a pattern for each native event; grep then looks for a line of each.
+# may_be_silent TOOL WORD.. says quickly, without Python, whether a native event of the words may be
+# one for which no line of the streams counts, or which counts something else in a recording. It is
+# never wrong when it says no. The script, the presets and the unit are read by awk, which writes a
+# pattern for each native event; grep then looks for a line of each.
 
 NEWLINE='
 '
@@ -11,7 +13,8 @@ may_be_silent() (
     IFS=$NEWLINE
     split_words "$@" || exit 0
     [ -n "$streams" ] || exit 1
-    patterns=$(KL_TOOL=$1 KL_UNIT=$unit KL_PRESETS=$presets KL_CPU=$cpu KL_EVENTS=$events KL_SCRIPT=$script LC_ALL=C awk "$PATTERNS" 2>/dev/null </dev/null) || exit 0
+    patterns=$(KL_TOOL=$1 KL_UNIT=$unit KL_PRESETS=$presets KL_CPU=$cpu KL_EVENTS=$events \
+        KL_SCRIPT=$script LC_ALL=C awk "$PATTERNS" 2>/dev/null </dev/null) || exit 0
     for pattern in $patterns; do
         [ "$pattern" != '?' ] || exit 0
         # shellcheck disable=SC2086
@@ -20,7 +23,8 @@ may_be_silent() (
     exit 1
 )
 
-# Sets what the words name; fails if they are of a form that is left to Python. There are no `streams` if one of them can't be read again.
+# Sets what the words name; fails if they are of a form that is left to Python. There are no
+# `streams` if one of them can't be read again.
 split_words() {
     unit="" presets="" cpu="" events="" script="" streams="" value="" are_unread="" is_past=""
     shift
@@ -61,18 +65,24 @@ function put(set, name) { set[name] = 1 }
 function trim(text) { gsub(/^[ \t]+|[ \t\r]+$/, "", text); return text }
 function number_of(text,  value, at) {
     text = tolower(text)
-    for (at = 1; at <= length(text); at++) value = 16 * value + index("0123456789abcdef", substr(text, at, 1)) - 1
+    for (at = 1; at <= length(text); at++)
+        value = 16 * value + index("0123456789abcdef", substr(text, at, 1)) - 1
     return value + 0
 }
 function bit(number, of) { return int(number / of) % 2 }
-function shares(one, other) { return bit(one, 1) * bit(other, 1) + bit(one, 2) * bit(other, 2) + bit(one, 4) * bit(other, 4) + bit(one, 8) * bit(other, 8) }
+function shares(one, other,  of, count) {
+    for (of = 1; of <= 8; of *= 2) count += bit(one, of) * bit(other, of)
+    return count
+}
 function with_both(one, other,  of, both) {
     for (of = 1; of < 256; of *= 2) both += of * (bit(one, of) || bit(other, of))
     return both
 }
-function digit(number) { return number < 10 ? number "" : "[" substr("abcdef", number - 9, 1) substr("ABCDEF", number - 9, 1) "]" }
+function letters(number) { return substr("abcdef", number - 9, 1) substr("ABCDEF", number - 9, 1) }
+function digit(number) { return number < 10 ? number "" : "[" letters(number) "]" }
 function sharing(number,  value, all) {
-    for (value = 0; value < 16; value++) if (shares(value, number)) all = all (value < 10 ? value "" : substr("abcdef", value - 9, 1) substr("ABCDEF", value - 9, 1))
+    for (value = 0; value < 16; value++)
+        if (shares(value, number)) all = all (value < 10 ? value "" : letters(value))
     return "[" all "]"
 }
 function mask_pattern(mask,  high, low, all) {
@@ -144,12 +154,17 @@ function read_unit(  line, f, component, pmu, count, at, here, has_here) {
             count = f[2] in texts ? split(substr(texts[f[2]], 2), here, " ") : 0
             has_here = 0
             for (at = 1; at <= count; at++) {
-                if ((here[at] in found) || (pmu_of[here[at]] != "" && pmu_of[here[at]] != pmu)) { here[at] = ""; continue }
+                if ((here[at] in found) || (pmu_of[here[at]] != "" && pmu_of[here[at]] != pmu)) {
+                    here[at] = ""
+                    continue
+                }
                 put(found, here[at])
                 has_here = 1
-                is_processors[here[at]] = pmu ~ /^(NHM|WSM|SNB|IVB|HSW|BDW|SKL|SKX|CLX|ICL|ICX|SPR|AMD64)(_[A-Z0-9_]+)?$/
+                is_processors[here[at]] = pmu ~ \
+                    /^(NHM|WSM|SNB|IVB|HSW|BDW|SKL|SKX|CLX|ICL|ICX|SPR|AMD64)(_[A-Z0-9_]+)?$/
                 amounts[here[at]] = attributes[here[at]] ~ /:C=/
-                heads[here[at]] = component "." digit(int(number_of(trim(f[3])) / 16)) digit(number_of(trim(f[3])) % 16)
+                select = number_of(trim(f[3]))
+                heads[here[at]] = component "." digit(int(select / 16)) digit(select % 16)
                 masks[here[at]] = defaults[here[at]] = chosen[here[at]] = 0
             }
         } else if (has_here && line ~ /^[ \t]*UMASK[ \t]*,/) {
@@ -170,7 +185,8 @@ function read_unit(  line, f, component, pmu, count, at, here, has_here) {
         }
     }
 }
-# What may count something else in a recording: events with the codes of a real processor, and least amounts.
+# What may count something else in a recording: events with the codes of a real processor, and
+# least amounts.
 function is_other(text) { return is_processors[text] && (!is_counted || amounts[text]) }
 function mode_of(text,  user, kernel) {
     user = attributes[text] ~ /:U(=[1YT])?:/; kernel = attributes[text] ~ /:K(=[1YT])?:/
@@ -179,5 +195,7 @@ function mode_of(text,  user, kernel) {
 BEGIN {
     read_names(); read_presets(); read_unit()
     for (text in found) if (is_other(text)) print "?"
-    for (text in found) printf "^%s.%s.%s.\n", heads[text], mask_pattern(chosen[text] ? masks[text] : defaults[text]), mode_of(text)
+    for (text in found)
+        printf "^%s.%s.%s.\n", heads[text],
+            mask_pattern(chosen[text] ? masks[text] : defaults[text]), mode_of(text)
 }'

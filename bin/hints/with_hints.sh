@@ -1,11 +1,17 @@
-# Read by the scripts of the tools, which define run_program: it runs the program with a tool and its words, in place of the shell.
+# Read by the scripts of the tools, which define run_program: it runs the program with a tool and
+# its words, in place of the shell.
 #
-# with_hints HINTS NAME TOOL WORD.. runs the tool, and ends with its status. What the program writes stays as it is, and comes while it runs. After it come lines
-# `hint: ..` on standard error, if the program says no or refuses something, or what was asked for is not there. HINTS is the folder of this file, and NAME what the
-# tool is called by. A signal to this shell alone ends the program too, and then the shell by the same signal.
-# Without hints the tool runs in place of this shell: with KISTALUB_HINTS=0, without Python, if standard output or error is closed, and if no temporary folder can be made.
-# If standard error is a terminal, a long run has a line there that says how far it is (progress.sh). With the word --quiet nothing is added, neither hints nor that line.
-# With the word --strict the status is 1 in place of 0 if a call was refused, or a native event counted 0 because no line of the streams counts for it.
+# with_hints HINTS NAME TOOL WORD.. runs the tool, and ends with its status. What the program writes
+# stays as it is, and comes while it runs. After it come lines `hint: ..` on standard error, if the
+# program says no or refuses something, or what was asked for is not there. HINTS is the folder of
+# this file, and NAME what the tool is called by. A signal to this shell alone ends the program too,
+# and then the shell by the same signal.
+# Without hints the tool runs in place of this shell: with KISTALUB_HINTS=0, without Python, if
+# standard output or error is closed, and if no temporary folder can be made.
+# If standard error is a terminal, a long run has a line there that says how far it is
+# (progress.sh). With the word --quiet nothing is added, neither hints nor that line.
+# With the word --strict the status is 1 in place of 0 if a call was refused, or a native event
+# counted 0 because no line of the streams counts for it.
 
 SILENT_STATUS=10 # of the hints
 
@@ -29,7 +35,8 @@ with_hints() {
         left=$((left - 1))
     done
     hinting=1 ticking=""
-    if [ "${KISTALUB_HINTS-1}" = 0 ] || [ -n "$quiet" ] || ! command -v python3 >/dev/null 2>&1; then
+    if [ "${KISTALUB_HINTS-1}" = 0 ] || [ -n "$quiet" ] ||
+        ! command -v python3 >/dev/null 2>&1; then
         hinting=
     fi
     [ -z "$strict" ] || prepare_strict
@@ -44,7 +51,8 @@ with_hints() {
     set_telling
     caught="" process="" folder=""
     trap remove_folder EXIT
-    # The shell may say on standard error that a signal ended what it has started, and nobody may read that.
+    # The shell may say on standard error that a signal ended what it has started, and nobody may
+    # read that.
     trap : PIPE
     for signal in $ENDING; do
         # shellcheck disable=SC2064
@@ -61,8 +69,9 @@ with_hints() {
     exit "$status"
 }
 
-# Sets `telling`: what a line of the output has if there may be something to hint at though the status is 0; and `values`: what it has if it tells counts, of which
-# some may have no line in the streams.
+# Sets `telling`: what a line of the output has if there may be something to hint at though the
+# status is 0; and `values`: what it has if it tells counts, of which some may have no line in the
+# streams.
 set_telling() {
     values=""
     case $tool in
@@ -93,7 +102,8 @@ prepare_strict() {
 }
 
 make_folder() {
-    guarded_folder 2>/dev/null && folder=$guarded && mkfifo -- "$folder/out" "$folder/err" "$folder/copy"
+    guarded_folder 2>/dev/null && folder=$guarded &&
+        mkfifo -- "$folder/out" "$folder/err" "$folder/copy"
 }
 
 # A signal to all that runs would end what removes it too.
@@ -109,7 +119,8 @@ run_unwatched() {
     run_program "$@"
 }
 
-# Runs the tool, and sets `status`. The file `told` in the folder has the telling lines of its output, and what it said on standard error.
+# Runs the tool, and sets `status`. The file `told` in the folder has the telling lines of its
+# output, and what it said on standard error.
 # If both outputs go to the same file, they go there through one pipe, so that they stay in order.
 run_watched() {
     relays="" finder="" together=""
@@ -159,7 +170,9 @@ start_finder() {
     finder=$!
 }
 
-# Passes on what comes through the fifo $1, and copies it to the file $2, whatever signal a terminal sends to all. If descriptor 8 is open and a terminal, the progress line stands there up to the first byte.
+# Passes on what comes through the fifo $1, and copies it to the file $2, whatever signal a terminal
+# sends to all. If descriptor 8 is open and a terminal, the progress line stands there up to the
+# first byte.
 relay() {
     ignore_signals
     trap - PIPE TERM
@@ -170,7 +183,8 @@ relay() {
     fi 2>/dev/null
 }
 
-# What is started and not waited for has no standard input of its own: it comes by a descriptor that the caller does not use.
+# What is started and not waited for has no standard input of its own: it comes by a descriptor that
+# the caller does not use.
 start_program() {
     if find_spare && eval "{ true $spare<&0; } 2>/dev/null"; then
         eval "{ run_with_outputs \"\$@\" <&$spare $spare<&- ${hold:+$hold>&-} & } $spare<&0"
@@ -193,7 +207,8 @@ run_with_outputs() {
     fi
 }
 
-# Waits for the end of a process. A signal that is caught ends the waiting alone. What it ends then is not told by the shell.
+# Waits for the end of a process. A signal that is caught ends the waiting alone. What it ends then
+# is not told by the shell.
 wait_for() {
     while :; do
         if [ -z "$caught" ]; then
@@ -212,7 +227,8 @@ stop_program() {
     [ -z "$process" ] || kill -s TERM "$process" 2>/dev/null
 }
 
-# A process that was started a moment ago may lose a signal, so each has it again after a second, until it is gone. `jobs` forgets those that are.
+# A process that was started a moment ago may lose a signal, so each has it again after a second,
+# until it is gone. `jobs` forgets those that are.
 end_all() {
     kill -s TERM "$@" 2>/dev/null
     for one in "$@"; do
@@ -233,7 +249,8 @@ end_if_caught() {
     exit $((128 + caught)) # some shells do not end by each signal
 }
 
-# Python starts only if the program said something, or an output has a telling line or lacks one, or a value may lack its lines.
+# Python starts only if the program said something, or an output has a telling line or lacks one, or
+# a value may lack its lines.
 add_hints() {
     is_silent=
     [ -n "$hinting$strict" ] || return 0
