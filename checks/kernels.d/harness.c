@@ -6,6 +6,7 @@
  * itself is the same whatever they are. */
 #define _GNU_SOURCE
 #include "live_requests.h"
+#include "live_thread.h"
 
 #include <stdio.h>
 #include <stdlib.h>

@@ -1,4 +1,4 @@
-"""checks/clauses: what is a bare limit, and what is none."""
+"""checks/clauses: what is a bare limit and what is none, and which lines are too wide."""
 
 from __future__ import annotations
 
@@ -8,7 +8,8 @@ import tempfile
 import unittest
 from pathlib import Path
 
-from tests.support import ROOT
+from columns import LEFT_OUT, sources
+from tests.support import ROOT, InFolder
 
 
 PRESETS = int(
@@ -150,3 +151,71 @@ class WideClauses(unittest.TestCase):
             said_of(clause),
             "crates/some/src/lib.rt:2: a clause has 112 columns\n1 passed, 1 failed\n",
         )
+
+
+class Columns(InFolder):
+    """Lines of 100 columns and of 101, in files of a checkout."""
+
+    WIDE = "x" * 101
+
+    def setUp(self) -> None:
+        super().setUp()
+        table = self.folder / "crates/preset_csv/src/symbols.rt"
+        table.parent.mkdir(parents=True)
+        table.write_text(f"pub const PRESETS: u32 = {PRESETS};\n", encoding="utf-8")
+
+    def said(self, name: str, text: str) -> str:
+        path = self.folder / name
+        path.parent.mkdir(parents=True, exist_ok=True)
+        path.write_text(text, encoding="utf-8")
+        done = subprocess.run(
+            [str(ROOT / "checks/clauses"), str(self.folder)], capture_output=True, text=True
+        )
+        path.unlink()
+        return done.stdout.rpartition("\n")[0].rpartition("\n")[0]
+
+    def test_a_wide_line_is_refused_with_its_place(self) -> None:
+        python, shell = "#!/usr/bin/env python3\n", "#!/bin/sh\n"
+        for name, begin in (
+            ("c/some.c", "//\n"), ("c/some.h", "\n"), ("tools/valgrind/some.c", "\n"),
+            ("include/papi.h", "\n"), ("examples/c/some.cc", "\n"), ("bench/some.py", "\n"),
+            ("tools/some", python), ("checks/some", python), ("python/a/some.py", "\n"),
+            ("bin/some", shell), ("bin/hints/some.sh", "\n"), (".ci/some", shell),
+        ):
+            wanted = f"{name}:2: a line has 101 columns"
+            self.assertEqual(self.said(name, f"{begin}{self.WIDE}\n"), wanted)
+            self.assertEqual(self.said(name, f"{begin}{self.WIDE[1:]}\n"), "", name)
+            self.assertEqual(self.said(name, f"{begin}{'ä' * 100}\n"), "", name)
+
+    def test_what_is_not_looked_at(self) -> None:
+        for name in (
+            "include/fpapi.h", "bin/usage/some", "tools/some.json", "crates/some/some.c",
+            "tools/__pycache__/some.py",
+        ):
+            self.assertEqual(self.said(name, f"{self.WIDE}\n"), "", name)
+
+    def test_a_text_of_several_lines(self) -> None:
+        """It is written as it stands, unless it says what something is."""
+        for before, after in (
+            ('x = """', '\n"""'), ("x = f'''\n", "\n{y}'''"), ('y("""', '\n")""")'),
+        ):
+            said = self.said("tools/some.py", f"{before}{self.WIDE}{after}\n")
+            self.assertEqual(said, "", before)
+        for text, line, columns in (
+            (f'"""{self.WIDE}\n"""\n', 1, 104),
+            (f'def f():\n    """A.\n\n{self.WIDE}"""\n', 4, 104),
+            (f'x = "{self.WIDE}"\n', 1, 107),
+            (f'x = """\n"""\n# {self.WIDE}\n', 3, 103),
+        ):
+            wanted = f"tools/some.py:{line}: a line has {columns} columns"
+            self.assertEqual(self.said("tools/some.py", text), wanted)
+
+    def test_each_folder_of_the_repository_has_sources(self) -> None:
+        seen = {path.relative_to(ROOT).as_posix() for path, _ in sources(ROOT)}
+        for name in (
+            ".ci/quick", "bench/run", "bin/papi", "bin/hints/guard.sh", "c/calls.c", "c/thread.h",
+            "checks/clauses", "examples/c/check", "include/papi.h", "python/building.py",
+            "tools/check", "tools/valgrind/build", "tools/tests/support.py",
+        ):
+            self.assertIn(name, seen)
+        self.assertEqual([name for name in LEFT_OUT if not (ROOT / name).is_file()], [])

@@ -501,6 +501,7 @@ class Lines(Recording):
     STOPS = """
         #define _GNU_SOURCE
         #include "live_requests.h"
+        #include "live_thread.h"
         #include <stdio.h>
         #include <string.h>
         extern const char first[] __asm__("__start_kistalub_code"), end[] __asm__("__stop_kistalub_code");
