@@ -1,4 +1,15 @@
-/* The calls of each thread: where the outermost one enters, and where it leaves. */
+/* The calls of each thread: where the outermost one enters, and where it leaves.
+ *
+ * The invariant. `end` of a thread is NULL, or where the part of the stack ends that its outermost
+ * call of the library has, which goes on or was left by a jump that no call has seen yet. Around a
+ * function of the user it is NULL (kl_user_begins), so what that calls is an outermost call too.
+ *
+ * Where `end` is not NULL, a function that begins is one of three. One that another function of the
+ * library calls stands below it and returns to the library's own code. One that a handler of a
+ * signal calls interrupts the outermost call, which stands on the way up the stack. Else that call
+ * was left: of what it had begun nothing is ended, but signals.c is told, and cancellation is put
+ * back. Where the way up breaks off, at a function without unwind tables, a call that would stand
+ * above is taken to go on: it is seen to be left by a call from no deeper place. */
 #include "posix.h"
 #include "calls.h"
 #include "holds.h"

@@ -1,6 +1,34 @@
-/* Calls that go on after a function of the user: a handler, or the function that gives a thread's
- * id. It may end the library, and it may jump out of the call: by longjmp, or by an exception of
- * C++. */
+/* Holds: calls that go on after a function of the user.
+ *
+ * In the midst of a call the library calls functions of the user: a handler of thresholds
+ * (overflow.c), and the function that gives a thread's id (threads.c). Such a function may make
+ * each call, may end the library, and may jump out: by longjmp, or by an exception of C++. The
+ * calls that it stands in hold the thread's state, as do the call in which time goes on
+ * (counting.c) and the one that hands over what a counted program did (live_counts.c), since both
+ * look at the state after their handlers. The handler of errors (errors.c) has a hold of its own,
+ * since it is called without a state too.
+ *
+ * The invariant. `holds` of a thread are the calls that hold, the outermost first. Each is known by
+ * where its part of the stack ends and where it returns to, and stands in the state and not on the
+ * stack, of which a jump leaves nothing. Each goes on, or was left by a jump that nobody has seen
+ * yet; those behind the first MOST_HOLDS are only counted. A state that its thread has left
+ * (`has_left`) is closed by the last call that lets go, and never before that.
+ *
+ * The order. kl_hold_on takes away those that can't stand any more: a stack grows down, so on it no
+ * call that goes on ends as low as one that begins now. Then it notes its hold, before it is
+ * counted and once more after that, as a handler of a signal may have had the place in between. The
+ * function of the user is called. kl_let_go takes away the hold with all behind it, and closes the
+ * state if the thread has left it.
+ *
+ * A jump passes by kl_let_go, and its hold stays. Whoever asks next for what depends on it, whether
+ * time stands (kl_in_handler) or whether the state may be closed (kl_leaves), first takes away the
+ * last ones that were left (kl_forget_jumps). Whether a call goes on is told by unwinding: its
+ * caller has to be on the way up, at the same place of the stack and of the code. Where the way
+ * ends too early, at a function without unwind tables, the call has to lie above that, and its
+ * return address has to stand still where its part of the stack ends.
+ *
+ * This may be promised (docs/C_PROGRAMS.md, Handlers) since no function of the user is called under
+ * a lock or while the core works: what a jump leaves for the library to find is a hold. */
 #define _GNU_SOURCE
 #include "holds.h"
 #include "papi.h"

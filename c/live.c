@@ -1,6 +1,34 @@
-/* What a program does while it runs, as the tool of Valgrind counts it: at each call of a thread
- * whatever it did since its last call happens in the core, which decides what is counted. The tool
- * stops a thread early enough for each threshold. */
+/* What a program does while it runs, as the tool of Valgrind counts it (tools/valgrind). There is
+ * no stream: at each call of a thread whatever it did since its last call happens in the core,
+ * which decides what is counted.
+ *
+ * The order of a call. It enters (KL_ENTER): from here on the tool does not count what the thread
+ * does. If a running set wants it, the tool's counts are taken, and what they grew by since the
+ * last time is added to `left`, for the kinds that are wanted; kl_happen (live_counts.c) then hands
+ * over what is left, and calls handlers as their thresholds are passed. The function does its work.
+ * The call leaves: if it may have started or stopped a set, it is found out anew which kinds are
+ * wanted (live_kinds.c), the tool counts or not, and the counts are taken once more, so that
+ * nothing from before counts. The tool is told how many occurrences of each kind may pass until a
+ * threshold could be passed, or after how many instructions a turn ends where a set is multiplexed.
+ * At last what the thread does is the program's again (KL_LEAVE).
+ *
+ * The tool stops a thread where such a number is reached, between two instructions of the program
+ * (live_stub.c). kl_live_stops does there what a call does, with the calls of the thread put aside,
+ * for it may be in the handler of a signal that interrupted one.
+ *
+ * The invariant. Of each kind that is wanted, what has happened in the core and what is `left` are
+ * together what the thread did up to `counts[seen]`, since its sets were started. The other one of
+ * the two `counts` is room for the next ones: they are read there first, and `seen` changes when
+ * they have been added. What happens is taken off `left` at once. Of a kind that is not wanted
+ * nothing is left. While a handler of thresholds runs time stands: counts are taken, and not added.
+ *
+ * A handler of thresholds may jump out. It is called when the core has ended, so `left` has just
+ * what did not happen yet, and that happens at the thread's next call. A handler of a signal that
+ * jumps out of a call passes by KL_LEAVE, so nothing counts from there to the thread's next call,
+ * as docs/C_PROGRAMS.md says: that call enters anew, and leaves.
+ *
+ * The tool may stop a thread inside of malloc, so what is done there takes no memory of the C
+ * library: in such a program the proved library has a heap of its own (live_heap.c). */
 #include "posix.h"
 #include "../tools/valgrind/kinds.h"
 #include "../tools/valgrind/protocol.h"

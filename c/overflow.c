@@ -1,4 +1,29 @@
-/* Thresholds that are passed: handlers, and which events have one. */
+/* Thresholds that are passed: handlers, and which events have one.
+ *
+ * The invariant. Each event of a set has a watch, in the event's place. One that has a threshold is
+ * `handled`, `profiled` or both. `is_watched` of a set and of a thread say whether there is such a
+ * one, and kl_note_watches sets both after each change. While a thread is watched, kl_go lets its
+ * stream happen by one occurrence at a time, so that what one passes is told before the next one
+ * happens. Under tools/count the tool stops the thread in time in place of that (live.c).
+ *
+ * The order. The core makes an occurrence happen and gives the thresholds that it passed, set after
+ * set. What happened is noted (`happened` of the thread, `left` under the tool), and the core ends:
+ * it does not work while the user's functions run. Then kl_tell goes through the sets. Of each it
+ * counts the hits of the profiles first, and then calls the set's handler once, with a bit for each
+ * event that passed its threshold. Each set is looked up anew, since the handler before may have
+ * taken it away; after one that ended the library nothing more is told.
+ *
+ * Around a handler kl_user_begins takes the thread out of its call: signals, cancellation and what
+ * the tool counts are as the program has them, and a call that the handler makes is an outermost
+ * one. Its hold (holds.c) says that a handler runs, and so time stands: a call that reads does so
+ * without a step, and kistalub_go answers PAPI_EISRUN. Under the tool what the handler did is not
+ * counted, so kl_user_ends comes before its hold is let go.
+ *
+ * A handler may jump out (longjmp, an exception): it passes by kl_user_ends, by the end of the hold
+ * and by what was to be told of the same occurrence, which is not told any more. Nothing else is
+ * lost: the core has ended, the occurrence was counted and noted, and the thread is in no call. The
+ * next call finds that the hold was left, and time goes on. So docs/C_PROGRAMS.md promises that the
+ * call is left as it is. */
 #include "posix.h"
 #include "calls.h"
 #include "events.h"

@@ -1,9 +1,37 @@
-/* Signals. A handler of the program may count in the midst of another call of the same thread. The
- * proved library makes one call at a time, so while it makes one the thread's signals wait, if the
- * process has a handler for any. It is looked for handlers now and then, since it takes a call of
- * the system for each signal. Where a handler was set since, the call that it interrupted goes on
- * after it: a reading then gives the values that were told last, and what else was asked for is
- * done when that call ends. */
+/* Signals: how the calls of a thread meet the handlers that interrupt them.
+ *
+ * A handler of the program may count in the midst of another call of the same thread. The proved
+ * library makes one call at a time over a handle, so there are two stretches in which no handler
+ * may enter it: a call of the proved library that counts, from kl_core_begins to kl_core_ends (the
+ * core), and a function that changes something (functions.h), from kl_change_begins to
+ * kl_change_ends.
+ *
+ * The invariant. `depth` of a thread is not 0 just while its core works, and says whether that only
+ * reads the counters or changes them. While it is not 0, and in a call that a handler makes in the
+ * midst of a change (kl_interrupts), kl_core_begins answers 0. Who gets 0 touches nothing of the
+ * library.
+ *
+ * The order. kl_core_begins looks for handlers if it is time to, blocks signals if a handler is
+ * known, and only then sets `depth`: a handler that comes before that makes whole calls. Then it
+ * does what handlers asked for. kl_core_ends clears `depth`, restores the mask, and does what was
+ * asked for since. Blocked are all signals but those that an instruction of the thread itself
+ * raises, which the system would not let wait. Where no handler is known nothing is blocked: that
+ * saves two calls of the system. To look for handlers takes one for each signal, so it is done at a
+ * thread's first call, at its first counting calls, and then now and then.
+ *
+ * A handler that was set since the last look can interrupt a stretch. counting.c answers its calls
+ * as if they were made before the interrupted one: a reading gives the values that were told last,
+ * a start is refused, and a stop or a reset is noted as a bit of `to_stop` or `to_reset`, which the
+ * first call does that may. From then on (`is_met`) signals are blocked in each stretch.
+ *
+ * A jump (siglongjmp) out of a handler leaves the interrupted call without its end. Where signals
+ * were blocked no handler ran inside of a stretch, so that call has ended or has not begun. That is
+ * why docs/C_PROGRAMS.md promises it of all calls but those that it lists. The thread's next call
+ * finds that it was left (calls.c), and calls kl_signals_were_left. A core that read is put back as
+ * it was opened: a reading changes nothing behind the handle. One that was changing something may
+ * be half done, so it is given up: the thread's calls answer PAPI_ECLOST until a library is begun
+ * anew, and none gives a wrong count. The mask is left as the program's jump leaves it, and from
+ * then on signals are blocked in each stretch. */
 #define _GNU_SOURCE
 #include "calls.h"
 #include "limits.h"

@@ -1,6 +1,24 @@
-/* Time: the model's, in which each occurrence of the thread's stream takes a cycle, so that it
- * repeats; with KISTALUB_CLOCK=real the machine's. Of a program that runs under the tool (live.h)
- * it is that of its own cycles. */
+/* Time. There are three clocks: the model's, in which each occurrence of the thread's stream takes
+ * a cycle, so that it repeats; the machine's, with KISTALUB_CLOCK=real; and that of a program that
+ * runs under the tool (live.h), which are the cycles of the modelled machine. KISTALUB_MHZ turns
+ * cycles into nanoseconds and back.
+ *
+ * The invariant. The model's time is `happened` of the calling thread, and nothing here changes it:
+ * it goes on where occurrences do, in counting.c, by as many as the core has consumed. So two
+ * readings without an occurrence in between show the same time, on any machine, and real and
+ * virtual time are one. Under the tool real time has the cycles of all threads, and virtual time
+ * the thread's own. A thread that has ended stays at the time of its end (kl_past_time). Without a
+ * library the model's time is 0; which clock there is, the environment says then.
+ *
+ * The order. `happened` goes up in the same stretch as the core's work (signals.c) and before any
+ * handler is called, so a handler reads the time of the occurrence that it was called for. While it
+ * runs time stands, since nothing happens. PAPI_read_ts reads first, with its step, and takes the
+ * time after that.
+ *
+ * A handler of a signal may tell the time, whatever it interrupts: that takes no lock and no
+ * memory, unless it is the thread's first call. A jump out of a handler leaves nothing to be done
+ * here. What had happened has been added; the rate and the clock are each one word, which
+ * PAPI_library_init sets. */
 #include "posix.h"
 #include "calls.h"
 #include "clock.h"
