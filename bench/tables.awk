@@ -1,5 +1,7 @@
-# Writes one of the large files of bench/tools: awk -v kind=KIND -v table=TABLE -f tables.awk, over the table of presets
-# No file passes the 1,048,576 bytes that a unit or a preset file may have. The same bytes on every machine.
+# Writes one of the large files of bench/tools: awk -v kind=KIND -v table=TABLE -f tables.awk, over
+# the table of presets
+# No file passes the 1,048,576 bytes that a unit or a preset file may have. The same bytes on every
+# machine.
 
 BEGIN {
     limit = 1048576
@@ -21,30 +23,35 @@ function component(number, width,    i) {
     return text
 }
 
-# 16 components with 32 counters and 1,024 events each, the events on two neighbouring counters, and as many umasks as there is room for,
-# spread evenly over the events.
+# 16 components with 32 counters and 1,024 events each, the events on two neighbouring counters, and
+# as many umasks as there is room for, spread evenly over the events.
 function wide_unit(    n, i, from, to, room, event) {
     room = limit - 16 * length(component(0, 32)) - 16384 * length("EVENT,E0000,00,0 1,\n")
     room = int(room / length("UMASK,a,01,-,\n"))
     for (n = 0; n < 16384; n++) {
         if (n % 1024 == 0) printf "%s", component(n / 1024, 32)
-        printf "EVENT,E%04x,%02x,%s %s,\n", n, n % 256, substr(counters, n % 32 + 1, 1), substr(counters, (n + 1) % 32 + 1, 1)
+        printf "EVENT,E%04x,%02x,%s %s,\n", n, n % 256, substr(counters, n % 32 + 1, 1),
+            substr(counters, (n + 1) % 32 + 1, 1)
         from = int(n * room / 16384)
         to = int((n + 1) * room / 16384)
         for (i = 1; i <= to - from; i++) printf "UMASK,%s,%02x,-,\n", umasks[i], i
     }
 }
 
-# 136 processors with all presets of the table each, over native events of the first component of wide.unit.
-function many_presets(    cpu, k, symbols, count, line) {
+# 136 processors with all presets of the table each, over native events of the first component of
+# wide.unit.
+function many_presets(    cpu, k, symbols, count, line, derived) {
     while ((getline line <table) > 0)
         if (line ~ /^PAPI_/) symbols[++count] = substr(line, 1, index(line, ",") - 1)
+    derived[1] = "DERIVED_ADD"
+    derived[2] = "DERIVED_SUB"
+    derived[3] = "DERIVED_POSTFIX,N0|N1|-|"
     for (cpu = 0; cpu < 136; cpu++) {
         printf "CPU,cpu%d\n", cpu
         for (k = 1; k <= count; k++) {
             printf "PRESET,%s,", symbols[k]
             if (k % 4 == 0) printf "NOT_DERIVED,p00::E%04x:a\n", k
-            else printf "%s,p00::E%04x:a,p00::E%04x:b\n", k % 4 == 1 ? "DERIVED_ADD" : k % 4 == 2 ? "DERIVED_SUB" : "DERIVED_POSTFIX,N0|N1|-|", k, k + count
+            else printf "%s,p00::E%04x:a,p00::E%04x:b\n", derived[k % 4], k, k + count
         }
     }
 }

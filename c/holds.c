@@ -11,8 +11,8 @@
  * The invariant. `holds` of a thread are the calls that hold, the outermost first. Each is known by
  * where its part of the stack ends and where it returns to, and stands in the state and not on the
  * stack, of which a jump leaves nothing. Each goes on, or was left by a jump that nobody has seen
- * yet; those behind the first MOST_HOLDS are only counted. A state that its thread has left
- * (`has_left`) is closed by the last call that lets go, and never before that.
+ * yet; those behind the first MOST_HOLDS are only counted. A state that its thread leaves while
+ * calls hold it (`has_left`) is closed by the last of them that lets go.
  *
  * The order. kl_hold_on takes away those that can't stand any more: a stack grows down, so on it no
  * call that goes on ends as low as one that begins now. Then it notes its hold, before it is
