@@ -53,8 +53,7 @@ def _texts(names: Iterable[Names]) -> list[str]:
         if not isinstance(each, str):
             raise TypeError(
                 f"kistalub: {each!r} is no name of an event: a name is a text, and a set is made "
-                "by "
-                "EventSet('INST_RETIRED', 'CYCLES') or by EventSet of a list of names"
+                "by EventSet('INST_RETIRED', 'CYCLES') or by EventSet of a list of names"
             )
     return [each for each in found if isinstance(each, str)]
 

@@ -51,17 +51,16 @@ class Account:
             lines.append(
                 f"beside one of {counted(len(self.exclusive), 'name')} of "
                 f"{_events_of(self.exclusive)} Linux lets a thread of a core with hyperthreading "
-                "count on "
-                f"{programmable // 2} of its {programmable} programmable counters (errata BJ122, "
-                "BV98, HSD29). A unit cannot say that, so this one takes sets that Linux refuses; "
-                f"with --counters {programmable // 2} it takes none of them"
+                f"count on {programmable // 2} of its {programmable} programmable counters (errata "
+                "BJ122, BV98, HSD29). A unit cannot say that, so this one takes sets that Linux "
+                f"refuses; with --counters {programmable // 2} it takes none of them"
             )
         if self.pairs:
             lines.append(
                 f"each of {counted(len(self.pairs), 'name')} of {_events_of(self.pairs)} takes two "
                 "counters, one with an even number and the next one. A unit can say the first of "
-                "them "
-                "alone, so this one takes sets of more counters than there are, which Linux refuses"
+                "them alone, so this one takes sets of more counters than there are, which Linux "
+                "refuses"
             )
         return lines
 

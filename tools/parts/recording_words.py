@@ -56,10 +56,8 @@ def record_words(name: str) -> argparse.ArgumentParser:
         metavar="STREAM",
         dest="stream",
         help="the file to write, with the rank of a process of MPI for %%r; with %%t in its name "
-        "each thread "
-        "has a file, and its number from 0 on stands there; without -o the stream goes to standard "
-        "output, and what the program writes there "
-        "to standard error",
+        "each thread has a file, and its number from 0 on stands there; without -o the stream "
+        "goes to standard output, and what the program writes there to standard error",
     )
     _add_strict(parser)
     parser.add_argument(
@@ -87,8 +85,7 @@ def count_words(name: str) -> argparse.ArgumentParser:
         "--library",
         metavar="FOLDER",
         help="where libpapi.so.7.0 of bin/install is; a program that is linked with PAPI takes it "
-        "from there. "
-        "A tool that is installed knows its own",
+        "from there. A tool that is installed knows its own",
     )
     parser.add_argument(
         "--unit", metavar="UNIT",
@@ -193,8 +190,7 @@ def _add_lines(parser: argparse.ArgumentParser) -> None:
         "--each",
         action="store_true",
         help="a line for each instruction, load and so on, in their order; without it, those at "
-        "one "
-        "place are gathered to lines of up to 255",
+        "one place are gathered to lines of up to 255",
     )
     lines.add_argument(
         "--window",

@@ -38,8 +38,7 @@ def add_whole(parser: argparse.ArgumentParser) -> None:
         metavar="E,..",
         help="count these events, by the names of the unit, presets and user events, with commas "
         "between them (instructions, cycles, loads, stores, misses of the first and the last "
-        "level, "
-        "branches, mispredicted ones, floating-point operations)",
+        "level, branches, mispredicted ones, floating-point operations)",
     )
     whole.add_argument(
         "--function",

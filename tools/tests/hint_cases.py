@@ -632,8 +632,7 @@ REFUSALS = (
         "2 0 add PAPI_ENOEVNT",
         "line 2: add 0 PAPI_FP_INS: Event does not exist: PAPI_FP_INS is none of the "
         f"{len(SYMBOLS)} presets that the program knows; tools/preset_rows makes the user event "
-        "FP_INS of its row "
-        "in the preset file",
+        "FP_INS of its row in the preset file",
         p=PRESETS + "PRESET,PAPI_FP_INS,NOT_DERIVED,LOADS\n",
     ),
     refused(

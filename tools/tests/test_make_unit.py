@@ -233,8 +233,8 @@ static inline bool amd_is_pair_event_code(struct hw_perf_event *hwc)
 # Of Linux, in tools/perf/pmu-events/arch/x86.
 FOLDERS = ("amdzen1 amdzen2 amdzen3 bonnell broadwell broadwellx cascadelakex elkhartlake goldmont "
            "haswell haswellx icelake icelakex ivybridge ivytown jaketown knightslanding "
-           "knightslanding "
-           "nehalemep nehalemex sandybridge sapphirerapids silvermont skylake skylakex "
+           "knightslanding nehalemep nehalemex sandybridge sapphirerapids silvermont skylake "
+           "skylakex "
            "westmereep-dp westmereep-sp").split()
 # Of arch/x86/events/intel/core.c.
 TABLES = "bdw core2 gen hsw icl ivb nehalem skl slm snb spr westmere".split()
