@@ -480,6 +480,7 @@ class Lines(Recording):
             #define _GNU_SOURCE
             #include "{ROOT}/c/live_requests.h"
             #include <stdio.h>
+            #include <unistd.h>
             void kl_live_stub(void) {{ puts("passed"); _exit(1); }}
             static long room[8192];
             int main(void) {{
