@@ -53,5 +53,6 @@ int main(void) {
     names();
     hardware();
     puts("each number and text is its own");
+    PAPI_shutdown();
     return 0;
 }
