@@ -96,6 +96,7 @@ static void count(const char *names, const char *own) {
         WANT(PAPI_list_events(set, &left, &number), PAPI_OK);
         WANT(number, 1);
         WANT(left, event);
+        PAPI_shutdown();
         exit(0);
     }
     WANT(waitpid(child, &status, 0), child);
