@@ -3,6 +3,7 @@ tools/processors."""
 
 from __future__ import annotations
 
+from parts.machine import BUFFERS, CACHES, KIB, MACHINES, Machine
 from parts.processors import NOTHING, Quantities, Row, Table, read_quantities, tables
 
 HEAD = """\
@@ -19,6 +20,11 @@ SUMS = "\nAnd these sums have names:\n"
 NEVER = f"""\
 `{NOTHING}` never occurs in the model. Each row below is tried by a kernel in assembly, but for those of `{NOTHING}`, and those of 512 bits alone, which Valgrind does not run.
 `checks/kernels --processors` prints these for each processor, with the reason ([checks/README](../checks/README.md#kernels))."""
+MODELLED = """
+## Machines
+
+What `--machine NAME` of `tools/record` and `tools/count` models ([RECORDING](RECORDING.md#the-machine)): each cache with its size and its ways, each translation buffer with its pages and ways.
+"""
 COLUMNS = ("Event", "What is counted", "What the processor counts otherwise")
 
 
@@ -62,12 +68,28 @@ def _quantities(quantities: Quantities) -> list[str]:
     ]
 
 
+def _shapes(machine: Machine) -> tuple[str, ...]:
+    caches = [(shape.lines * shape.line // KIB, shape.ways) for name in CACHES if (shape := machine.shapes[name])]
+    buffers = [(shape.lines, shape.ways) for name in BUFFERS if (shape := machine.shapes[name])]
+    sizes = [f"{kib // KIB} MiB, {ways}" if kib % KIB == 0 else f"{kib:,} KiB, {ways}" for kib, ways in caches]
+    return (*sizes, *(f"{pages} pages, {ways}" for pages, ways in buffers))
+
+
+def _machines() -> list[str]:
+    """Machines with the same parts have one row."""
+    named: dict[tuple[str, ...], list[str]] = {}
+    for name, machine in MACHINES.items():
+        named.setdefault(_shapes(machine), []).append(f"`{name}`")
+    columns = ("Machine", *(f"`--{part}`" for part in (*CACHES, *BUFFERS)))
+    return [MODELLED, *_table(columns, [(", ".join(names), *shapes) for shapes, names in named.items()])]
+
+
 def counted_page() -> str:
     own: list[Table] = []
     for table in tables().values():
         if table not in own:
             own.append(table)
-    lines = _quantities(read_quantities())
+    lines = _quantities(read_quantities()) + _machines()
     for table in own:
         lines += _section(table)
     return "\n".join(lines) + "\n"
