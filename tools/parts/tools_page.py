@@ -18,20 +18,20 @@ HEAD = """# Tools
 Each tool has a script in `bin/`. It prints its usage without words and with `--help`. The manual pages in `man/` say the same:
 `man -l man/papi_run.1`. [FORMATS.md](FORMATS.md) has the formats of all files and the rules of all calls.
 
-The commands on this page are run at the top of the repository. What they print is shown, on standard output and then on standard error.
+Run the commands on this page at the top of the repository. Each stands above what it prints on standard output, and then on standard error.
 
-Lines that begin with `hint: ` are not the program's. The scripts in `bin/` add them to standard error if the status is 1 or 2, if a call of a script is refused, if nothing is found
-of what was asked for, or if a native event of a set that ran counts 0 because no line of the streams has its code. They say which word, line, field or name is meant, which names are like it, and by which rule a call is refused. They need Python 3.9; without it there are no
-hints, nor are there any with `KISTALUB_HINTS=0`.
+**Hints.** Lines that begin with `hint: ` are not the program's. The scripts in `bin/` add them to standard error if the status is 1 or 2, if a call of a script is refused, if a search
+finds nothing, or if a native event of a set that ran counts 0 because no line of the streams has its code. A hint names the word, line, field or name, names that are like it, and the rule
+that refuses a call. Hints need Python 3.9. `KISTALUB_HINTS=0` leaves them out.
 
-If standard error is a terminal, the scripts show there how far a run of more than half a second has come: the seconds, and how much of the streams was read. The line is gone before
-the output comes. With the word `--quiet` a script adds nothing, neither hints nor this line. Whatever ends the script ends the program, and no folder of it is left.
+**Progress.** If standard error is a terminal, the scripts show there how far a run of more than half a second has come: the seconds, and how much of the streams was read. The line goes
+before the output comes. With the word `--quiet` a script adds neither hints nor this line. Whatever ends the script ends the program, and no folder of it is left.
 
-With the word `--strict` a script ends with 1 in place of 0 if a call of a script was refused, or if a native event counted 0 because no line of the streams has its code. Nothing that is written
-changes. It needs Python. To know which calls of its script were refused, `papi_profil --strict` runs the script once more.
+**Refusals as failures.** With the word `--strict` a script ends with 1 in place of 0 if a call of a script was refused, or if a native event counted 0 because no line of the streams has its code. The
+output stays the same. This needs Python. To find the refused calls of its script, `papi_profil --strict` runs the script once more.
 
-As long as no proved program is built, the scripts run the same code unproved. The first command compiles it, in a minute or two, and later ones answer at once. `bin/papi --compile` only
-does this, and prints where the program is that the scripts run. It is kept in `${XDG_CACHE_HOME:-~/.cache}/kistalub`, under a checksum of the code and of the toolchain
+**Without proofs.** While no proved program is built, the scripts run the same code unproved. The first command compiles it, in a minute or two, and later ones answer at once.
+`bin/papi --compile` only does this, and prints where the program is. It is kept in `${XDG_CACHE_HOME:-~/.cache}/kistalub`, under a checksum of the code and of the toolchain
 (`tools/compile_unproved`). With `KISTALUB_COMPILE=0` it is not compiled: a command that needs it then ends with 127.
 
 """
@@ -66,9 +66,9 @@ ORIGINS = {
 }
 ERRORS_HEAD = """## Errors
 
-The program writes at most one line on standard error, except for streams: one line for each thread whose runs met a fault. Row numbers count
-the rows of a table without blank lines and without lines that begin with `#`. The hint below such a line has the line of the file, and `tools/preset_lines FILE` tells it too.
-The first fault in the order of work is named: the words, the unit file, the preset file, the map, the script, the openings of the streams, and then the runs.
+The program writes at most one line on standard error, but for streams: there each thread whose runs met a fault has a line. Row numbers count
+the rows of a table without blank lines and lines that begin with `#`. The hint below has the line of the file, and so has `tools/preset_lines FILE`.
+The line names the first fault in the order of work: the words, the unit file, the preset file, the map, the script, the openings of the streams, and then the runs.
 """
 
 
@@ -78,8 +78,8 @@ def cell(text: str) -> str:
 
 CODES_HEAD = """## Codes of replies
 
-A reply of `papi_run` has one of these codes, with the number that a C program gets and PAPI's sentence for it (`PAPI_strerror`). The last column has the calls of a script that
-are refused by it, and when. [FORMATS](FORMATS.md#what-the-calls-do) has the order of the refusals of each call.
+A reply of `papi_run` has one of these codes. The number is what a C program gets, and the sentence is PAPI's (`PAPI_strerror`). The last column says which calls of a script the code
+refuses, and when. [FORMATS](FORMATS.md#what-the-calls-do) has the order of the refusals of each call.
 
 | Code | Number | Sentence | When |
 |---|---|---|---|"""

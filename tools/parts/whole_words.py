@@ -36,9 +36,9 @@ def add_whole(parser: argparse.ArgumentParser) -> None:
     whole.add_argument(
         "--events",
         metavar="E,..",
-        help="count these events, by the names of the unit, presets and user events, with commas "
-        "between them (instructions, cycles, loads, stores, misses of the first and the last "
-        "level, branches, mispredicted ones, floating-point operations)",
+        help="count these events of the unit, presets and user events, with commas between the "
+        "names (instructions, cycles, loads, stores, misses of the first and the last level, "
+        "branches, mispredictions, floating-point operations)",
     )
     whole.add_argument(
         "--function",
@@ -46,48 +46,48 @@ def add_whole(parser: argparse.ArgumentParser) -> None:
         dest="functions",
         action="append",
         default=[],
-        help="count what happens in calls of this function alone, from each call to its return, "
-        "with what it calls; may be repeated. 0xADDRESS names one by its address in the program's "
-        "file",
+        help="count only what happens in calls of this function, from each call to its return, "
+        "with what it calls; may be repeated. 0xADDRESS names a function by its address in the "
+        "program's file",
     )
     whole.add_argument(
         "--profile",
         action="store_true",
-        help="count each function and each line of source too: what it does by itself, and "
-        "functions with what they call",
+        help="also count each function and each line of source by itself, and each function with "
+        "what it calls",
     )
     whole.add_argument(
         "--callgrind",
         metavar="FILE",
-        help="write the profile in callgrind's format too, for callgrind_annotate and KCachegrind",
+        help="also write the profile in callgrind's format, for callgrind_annotate and KCachegrind",
     )
     whole.add_argument(
         "--page",
         metavar="FILE",
-        help="write the profile as one HTML page too: source with counts, functions, and a flame "
+        help="also write the profile as one HTML page: source with counts, functions, and a flame "
         "graph; it fetches nothing",
     )
     whole.add_argument(
         "--whole",
         action="store_true",
-        help="count a program that makes PAPI's calls as a whole too, beside them",
+        help="also count a program as a whole that makes PAPI's calls",
     )
     whole.add_argument(
         "--children",
         action="store_true",
-        help="count the processes that the program starts too, each and all together",
+        help="also count the processes that the program starts, each and all together",
     )
     whole.add_argument(
         "-o",
         metavar="FILE",
         dest="table",
-        help="write the table to this file, in place of standard error; %%r stands for the rank of "
-        "a process of MPI in the names of all files",
+        help="write the table to this file, in place of standard error; in the names of all files "
+        "%%r stands for the rank of a process of MPI",
     )
     whole.add_argument(
-        "--json", metavar="FILE", help="write the counts as JSON too (docs/FORMATS.md)"
+        "--json", metavar="FILE", help="also write the counts as JSON (docs/FORMATS.md)"
     )
-    whole.add_argument("--csv", metavar="FILE", help="write them as CSV too")
+    whole.add_argument("--csv", metavar="FILE", help="also write them as CSV")
 
 
 def whole_of(words: argparse.Namespace) -> Whole:
