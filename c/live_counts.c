@@ -19,28 +19,48 @@
 
 /* What the core takes at once, while the thread's signals wait. They are whole lines. */
 #define MOST_AT_ONCE (LARGEST_AMOUNT << 14)
+#define MOST_LISTED 64 /* in one call of the core: a thread may have a small stack */
 #define MORE 1 /* is left, beside the codes of PAPI */
 
-/* What a thread hands over, and the thresholds that were passed. */
-typedef struct { uint64_t kinds, address, told; kistalub_passing passings[MOST_EVENTS]; } handing;
+/* What a thread hands over in one call of the core: occurrences, how much of each is given, where
+ * it stands how much is left, and the thresholds that were passed. */
+typedef struct {
+    uint64_t kinds, address, told, *left[MOST_LISTED];
+    size_t count;
+    uint32_t given[MOST_LISTED];
+    kistalub_occurrences listed[MOST_LISTED];
+    kistalub_passing passings[MOST_EVENTS];
+} handing;
 
-/* One native event: what is left of it, in how many portions, and its share of them. */
-typedef struct { uint64_t *left, portions, credit; event_code code; } turn;
+/* One native event: where it stands how much of it is left, what is not listed yet, in how many
+ * portions, and its share of them. */
+typedef struct { uint64_t *left, unlisted, portions, credit; event_code code; } turn;
 
-/* As much of it happens as does until thresholds are passed. MORE if others are to wait. */
-static inline int hand_over(thread_state *t, handing *h, uint64_t *left, uint32_t most,
-                            event_code code) {
-    const kistalub_occurrences what = { .address = h->address,
-                                        .amount = *left < most ? (uint32_t)*left : most,
-                                        .select = code.select,
-                                        .umask = code.umask };
-    uint32_t went = 0;
-    int answer = kistalub_happen(&t->library, &what, &went, h->passings, MOST_EVENTS, &h->told);
-    *left -= went;
-    if (KL_RARELY(t->live->kept)) kl_keep_adds(t, &what, went);
-    if (answer == PAPI_EBUF || (answer == PAPI_OK && (h->told || went == MOST_AT_ONCE)))
-        return MORE;
-    return answer;
+/* As much of the list happens as does until thresholds are passed. MORE if others are to wait. */
+static int hand_over(thread_state *t, handing *h) {
+    int is_more = 0;
+    int answer = kistalub_happen(&t->library, h->listed, h->count, h->passings, MOST_EVENTS,
+                                 &h->told);
+    for (size_t i = 0; i < h->count; i++) {
+        const uint32_t went = h->given[i] - h->listed[i].amount;
+        *h->left[i] -= went;
+        is_more |= went == MOST_AT_ONCE;
+        if (KL_RARELY(t->live->kept) && went) kl_keep_adds(t, &h->listed[i], went);
+    }
+    h->count = 0;
+    return answer == PAPI_EBUF || (answer == PAPI_OK && (h->told || is_more)) ? MORE : answer;
+}
+
+static int list(thread_state *t, handing *h, uint64_t *left, uint32_t amount, event_code code) {
+    int answer = h->count == MOST_LISTED ? hand_over(t, h) : PAPI_OK;
+    if (answer != PAPI_OK) return answer;
+    h->left[h->count] = left;
+    h->given[h->count] = amount;
+    h->listed[h->count++] = (kistalub_occurrences){ .address = h->address,
+                                                    .amount = amount,
+                                                    .select = code.select,
+                                                    .umask = code.umask };
+    return PAPI_OK;
 }
 
 static int happen_whole(thread_state *t, handing *h) {
@@ -49,11 +69,12 @@ static int happen_whole(thread_state *t, handing *h) {
         const kind_codes *codes = &t->live->codes[kind];
         for (unsigned i = 0; i < codes->count; i++) {
             uint64_t *left = &t->live->left[kind][i];
-            int answer = *left ? hand_over(t, h, left, MOST_AT_ONCE, codes->of[i]) : PAPI_OK;
+            const uint32_t amount = *left < MOST_AT_ONCE ? (uint32_t)*left : MOST_AT_ONCE;
+            int answer = amount ? list(t, h, left, amount, codes->of[i]) : PAPI_OK;
             if (answer != PAPI_OK) return answer;
         }
     }
-    return PAPI_OK;
+    return hand_over(t, h);
 }
 
 static unsigned take_turns(live_thread *live, uint64_t kinds, turn *turns, uint64_t *most) {
@@ -64,7 +85,7 @@ static unsigned take_turns(live_thread *live, uint64_t kinds, turn *turns, uint6
             uint64_t *left = &live->left[kind][i],
                      portions = (*left + LARGEST_AMOUNT - 1) / LARGEST_AMOUNT;
             if (!portions) continue;
-            turns[count++] = (turn){ left, portions, 0, live->codes[kind].of[i] };
+            turns[count++] = (turn){ left, *left, portions, 0, live->codes[kind].of[i] };
             if (portions > *most) *most = portions;
         }
     }
@@ -81,10 +102,13 @@ static int happen_in_turns(thread_state *t, handing *h) {
             one->credit += one->portions;
             if (one->credit < most) continue;
             one->credit -= most;
-            int answer = hand_over(t, h, one->left, LARGEST_AMOUNT, one->code);
+            const uint32_t amount =
+                one->unlisted < LARGEST_AMOUNT ? (uint32_t)one->unlisted : LARGEST_AMOUNT;
+            one->unlisted -= amount;
+            int answer = list(t, h, one->left, amount, one->code);
             if (answer != PAPI_OK) return answer;
         }
-    return PAPI_OK;
+    return hand_over(t, h);
 }
 
 /* The core takes no more of the thread: it has had as many lines as there are stamps. */
@@ -106,7 +130,7 @@ static __attribute__((noinline)) int tell(thread_state *t, const handing *h) {
 
 /* The core has been begun, and ends before the handlers are called. */
 static int happen_until_told(thread_state *t, handing *h) {
-    h->told = 0;
+    h->told = h->count = 0;
     kl_core_changes(t);
     int answer = t->live->is_in_turns ? happen_in_turns(t, h) : happen_whole(t, h);
     kl_core_rests(t);

@@ -26,14 +26,14 @@ static known *first; /* under kl_kinds_lock */
 
 /* What so many occurrences add to what the set counts; 1 if that can't be told. */
 static int64_t added(kistalub *h, uint32_t set, event_code code, uint32_t amount, int64_t *before) {
-    const kistalub_occurrences what = { .amount = amount,
-                                        .select = code.select,
-                                        .umask = code.umask };
+    kistalub_occurrences what = {
+        .amount = amount, .select = code.select, .umask = code.umask
+    };
     kistalub_passing passings[MOST_EVENTS];
     uint64_t told = 0;
-    uint32_t went = 0, count = 0;
+    uint32_t count = 0;
     int64_t now[MOST_EVENTS] = { 0 };
-    if (kistalub_happen(h, &what, &went, passings, MOST_EVENTS, &told) != PAPI_OK ||
+    if (kistalub_happen(h, &what, 1, passings, MOST_EVENTS, &told) != PAPI_OK ||
         kistalub_read(h, set, now, MOST_EVENTS, &count) != PAPI_OK)
         return 1;
     int64_t more = now[0] - *before;

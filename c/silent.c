@@ -123,10 +123,11 @@ int kl_take_heads(const text *stream, kl_heads *heads) {
 static int all_happen(kistalub *probe, const kl_heads *heads) {
     kistalub_passing passings[MOST_EVENTS];
     uint64_t told = 0;
-    uint32_t went = 0;
     int code = PAPI_OK;
-    for (size_t i = 0; code == PAPI_OK && i < heads->count; i++)
-        code = kistalub_happen(probe, &heads->of[i], &went, passings, MOST_EVENTS, &told);
+    for (size_t i = 0; code == PAPI_OK && i < heads->count; i++) {
+        kistalub_occurrences one = heads->of[i];
+        code = kistalub_happen(probe, &one, 1, passings, MOST_EVENTS, &told);
+    }
     return code;
 }
 

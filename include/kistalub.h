@@ -149,14 +149,15 @@ typedef struct {
     uint8_t component, select, umask, kernel;
 } kistalub_occurrences;
 
-/* These happen now, in a library whose stream has ended or is empty, and `went` says how many did.
- * They count as the lines of a stream would, one after another, of 255 each and a last one of the
- * rest (docs/FORMATS.md, "Occurrences as numbers"). Each threshold that is passed is written into
- * the array, in order. If fewer than 32 have room, or 32 places were written, it stops before the
- * next line with -20, PAPI_EBUF, and a further call goes on with what is left. -1 if the stream has
- * not ended, and nothing happens then, or if the thread has had as many lines as a thread may. It
- * takes no memory. */
-int kistalub_happen(kistalub *h, const kistalub_occurrences *what, uint32_t *went,
+/* These happen now, one after another, in a library whose stream has ended or is empty, and each
+ * `amount` says then how many of them are left. They count as the lines of a stream would, of 255
+ * each and a last one of the rest (docs/FORMATS.md, "Occurrences as numbers"). Each threshold that
+ * is passed is written into the array, in order: what comes after the first of them that passes
+ * some waits for a further call. If fewer than 32 have room, or 32 places were written, it stops
+ * before the next line with -20, PAPI_EBUF, and a further call goes on with what is left. -1 if the
+ * stream has not ended, and nothing happens then, or if the thread has had as many lines as a
+ * thread may. It takes no memory. */
+int kistalub_happen(kistalub *h, kistalub_occurrences *what, size_t whats,
                     kistalub_passing *passings, size_t room, uint64_t *told);
 
 /* What follows is C over the functions above (the sources in c/), and is not proved. */

@@ -10,20 +10,19 @@ static unsigned char unit[65536], none[1];
 static size_t length;
 
 static uint32_t hand_over(kistalub *h, uint32_t amount, uint8_t kernel, size_t room) {
-    const kistalub_occurrences what = {
+    kistalub_occurrences what = {
         .address = 0x4a, .amount = amount, .select = 0xc0, .kernel = kernel
     };
     kistalub_passing passings[33];
-    uint32_t went = 99;
     uint64_t told = 99;
     memset(passings, 0x7f, sizeof passings);
-    int code = kistalub_happen(h, &what, &went, passings, room, &told);
-    printf("%d: %u of %u, %llu passings", code, (unsigned)went, (unsigned)amount,
-           (unsigned long long)told);
+    int code = kistalub_happen(h, &what, 1, passings, room, &told);
+    printf("%d: %u of %u, %llu passings", code, (unsigned)(amount - what.amount),
+           (unsigned)amount, (unsigned long long)told);
     for (uint64_t k = 0; told < sizeof passings / sizeof *passings && k < told; k++)
         printf(", at 0x%llx", (unsigned long long)passings[k].address);
     puts("");
-    return amount - went;
+    return what.amount;
 }
 
 static void begin(kistalub *h, const char *text, const char *event, uint64_t threshold,
@@ -88,6 +87,26 @@ static void lines(void) {
     print_value(&h, set);
 }
 
+/* What comes after the first that passes a threshold waits for a further call. */
+static void one_after_another(void) {
+    kistalub h = KISTALUB_SHUT;
+    kistalub_occurrences what[] = {
+        { .amount = 5, .select = 0xc0 },
+        { .amount = 1000, .select = 0xc0 },
+        { .amount = 7, .select = 0xc0 },
+    };
+    kistalub_passing passings[32];
+    uint64_t told;
+    uint32_t set;
+    begin(&h, "", "INST_RETIRED", 1000, &set);
+    for (int times = 0; times < 2; times++) {
+        WANT(kistalub_happen(&h, what, 3, passings, 32, &told), 0);
+        printf("left %u, %u and %u, %llu passings\n", (unsigned)what[0].amount,
+               (unsigned)what[1].amount, (unsigned)what[2].amount, (unsigned long long)told);
+    }
+    print_value(&h, set);
+}
+
 int main(void) {
     FILE *f = fopen(getenv("KISTALUB_UNIT"), "rb");
     if (!f) return 2;
@@ -96,5 +115,6 @@ int main(void) {
     thresholds();
     after_a_stream();
     lines();
+    one_after_another();
     return 0;
 }

@@ -42,23 +42,30 @@ void kl_tell(thread_state *t, const kistalub_passing *passings, uint64_t told) {
     t->has_left = !strcmp(mode, "leave");
 }
 
-int kistalub_happen(kistalub *h, const kistalub_occurrences *what, uint32_t *went,
-                    kistalub_passing *passings, size_t room, uint64_t *told) {
+/* Of one occurrence as much happens as has room, up to the second line that passes a threshold. */
+static int one_happens(kistalub_occurrences *what, kistalub_passing *passings, uint64_t *told) {
     const int tells = !strcmp(mode, "jump") || !strcmp(mode, "leave");
-    if (!h || !is_in_core || room != MOST_EVENTS || what->component || what->kernel ||
-        what->umask != 1)
-        exit(4);
-    *told = 0;
-    for (*went = 0; *went < what->amount;) {
-        uint32_t left = what->amount - *went,
-                 amount = left < LARGEST_AMOUNT ? left : LARGEST_AMOUNT;
+    while (what->amount) {
+        const uint32_t amount = what->amount < LARGEST_AMOUNT ? what->amount : LARGEST_AMOUNT;
         if (*told) return PAPI_EBUF;
         if (!room_of_thread--) return room_of_thread = 0, PAPI_EINVAL;
         printf("%c%u ", what->select, amount);
-        *went += amount;
+        what->amount -= amount;
         if (tells) passings[(*told)++] = (kistalub_passing){ 0, 0, what->address };
     }
     return PAPI_OK;
+}
+
+int kistalub_happen(kistalub *h, kistalub_occurrences *what, size_t whats,
+                    kistalub_passing *passings, size_t room, uint64_t *told) {
+    int code = PAPI_OK;
+    if (!h || !is_in_core || room != MOST_EVENTS) exit(4);
+    *told = 0;
+    for (size_t i = 0; code == PAPI_OK && !*told && i < whats; i++) {
+        if (what[i].component || what[i].kernel || what[i].umask != 1) exit(4);
+        code = one_happens(&what[i], passings, told);
+    }
+    return code;
 }
 
 static void call(thread_state *t) {

@@ -29,7 +29,7 @@ VALUES = {
     "&mut u32": "&mut word",
     "&mut StreamFault": "&mut fault",
     "&mut [Passing]": "&mut passings",
-    "&Occurrences": "&what",
+    "&mut [Occurrences]": "&mut what",
 }
 LENGTH = "&mut u64"
 LENGTHS = ("&mut length", "&mut other_length")  # no two parameters are lent the same
@@ -59,14 +59,14 @@ fn main(rt: HostRuntime) -> ExitCode {
     let mut other_length = 0u64;
     let mut passings = [Passing { set: 0, index: 0, address: 0 }; 4];
     let mut fault = StreamFault { line: 0, cause: 0 };
-    let what = Occurrences {
+    let mut what = [Occurrences {
         address: which as u64,
         amount: which,
         component: which as u8,
         select: which as u8,
         umask: which as u8,
         kernel: which as u8,
-    };
+    }; 4];
     let mut sum = 0i32;
 """
 END = """    if sum == 77 {
