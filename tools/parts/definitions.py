@@ -264,7 +264,7 @@ def contract_words(file: Path, function: str) -> tuple[Module, list[str]]:
     head = re.search(rf"\bfn {re.escape(function)}\b", text)
     if not head:
         raise Fault(f"{file}: no function {function}")
-    clauses = re.search(r"\n\{\n", text[head.start():])
+    clauses = re.search(r"\n\{[\n}]", text[head.start():])
     if not clauses:
         raise Fault(f"{file}: no end of the contract of {function}")
     contract = text[head.start() : head.start() + clauses.start()]

@@ -1,5 +1,5 @@
 """docs/DEFINITIONS.md: what a reader has to read to know what the headline says, in the order to
-read it."""
+read it, and after it what the law of C programs says beyond it."""
 
 from __future__ import annotations
 
@@ -13,6 +13,8 @@ from parts.definitions import Definition, Definitions, contract_words
 
 TOP = "crates/papi_tools/src/top.rt"
 TOP_FUNCTION = "papi_main"
+LAW = "crates/papi_c/src/laws.rt"
+LAW_FUNCTION = "history_law"
 TOTAL = re.compile(
     r"[\d,]+ definitions of [\d,]+ lines in \d+ files, and \d+ types of [\d,]+ lines"
 )
@@ -28,11 +30,22 @@ The page is made by `tools/make_definitions`. Lines are counted without comments
 """
 
 
+# What the law of C programs reaches beyond the headline.
+OF_PROGRAMS = """## For C programs
+
+What to read to know what [`history_law`](../crates/papi_c/src/laws.rt) says: whatever a C program does with a library that
+it opens without a stream, each reply and each note is that of the one-thread definition. It reaches {shared} of the
+definitions and types above, and these {total}.
+"""
+
+
 @dataclass(frozen=True)
 class Guide:
     root: Path
     definitions: list[Definition]  # in the order to read them
     subjects: dict[str, str]  # what a crate holds, by its name
+    of_programs: "Guide | None" = None  # what the law of C programs reaches beyond these
+    shared: int = 0  # how many of these it reaches
 
     @property
     def specs(self) -> list[Definition]:
@@ -54,19 +67,28 @@ def read_subjects(root: Path) -> dict[str, str]:
     return found
 
 
-def read_guide(root: Path) -> Guide:
-    every = Definitions(root)
-    module, words = contract_words(root / TOP, TOP_FUNCTION)
+def reached_by(every: Definitions, file: str, function: str) -> list[Definition]:
+    """What the contract of a function reaches."""
+    module, words = contract_words(every.root / file, function)
     starts = [place for place in (every.place_of(module, word) for word in words) if place]
     if not starts:
-        raise Fault(f"{TOP}: the contract of {TOP_FUNCTION} cites no definition")
-    guide = Guide(root, every.reached(list(dict.fromkeys(starts))), read_subjects(root))
-    silent = [it for it in guide.definitions if not it.sentence]
-    if silent:
-        raise Fault(
-            f"{silent[0].file.relative_to(root)}: {silent[0].place.name} has no sentence above it"
-        )
-    return guide
+        raise Fault(f"{file}: the contract of {function} cites no definition")
+    found = every.reached(list(dict.fromkeys(starts)))
+    for it in found:
+        if not it.sentence:
+            name = it.file.relative_to(every.root)
+            raise Fault(f"{name}: {it.place.name} has no sentence above it")
+    return found
+
+
+def read_guide(root: Path) -> Guide:
+    every = Definitions(root)
+    subjects = read_subjects(root)
+    first = reached_by(every, TOP, TOP_FUNCTION)
+    places = {it.place for it in first}
+    law = reached_by(every, LAW, LAW_FUNCTION)
+    beyond = Guide(root, [it for it in law if it.place not in places], subjects)
+    return Guide(root, first, subjects, beyond, len(law) - len(beyond.definitions))
 
 
 def total_line(guide: Guide) -> str:
@@ -112,26 +134,32 @@ def row(guide: Guide, definition: Definition) -> str:
     )
 
 
-def section(guide: Guide, crate: str, definitions: list[Definition]) -> list[str]:
-    lines = sum(it.lines for it in definitions)
-    text = [
-        f"## {crate}", "",
-        f"{begun(guide.subjects.get(crate, crate))}. {len(definitions)} here, {lines} lines.", "",
-    ]
+def tables(guide: Guide, crate: str, definitions: list[Definition]) -> list[str]:
+    """A table for each file."""
+    text: list[str] = []
     modules: dict[Path, list[Definition]] = {}
     for definition in definitions:
         modules.setdefault(definition.file, []).append(definition)
     for file, ones in modules.items():
-        text += [
-            f"### {crate}: {file.stem}", "", "| Definition | What it says | Lines |",
-            "|---|---|---|",
-        ]
+        head = ["| Definition | What it says | Lines |", "|---|---|---|"]
+        text += [f"### {crate}: {file.stem}", "", *head]
         text += [row(guide, it) for it in sorted(ones, key=lambda it: it.line)] + [""]
     return text
+
+
+def section(guide: Guide, crate: str, definitions: list[Definition]) -> list[str]:
+    lines = sum(it.lines for it in definitions)
+    subject = begun(guide.subjects.get(crate, crate))
+    text = [f"## {crate}", "", f"{subject}. {len(definitions)} here, {lines} lines.", ""]
+    return text + tables(guide, crate, definitions)
 
 
 def guide_page(guide: Guide) -> str:
     text = [INTRODUCTION, f"In all {total_line(guide)}.", ""]
     for crate, definitions in by_crate(guide).items():
         text += section(guide, crate, definitions)
+    if beyond := guide.of_programs:
+        text.append(OF_PROGRAMS.format(shared=guide.shared, total=total_line(beyond)))
+        for crate, definitions in by_crate(beyond).items():
+            text += tables(beyond, crate, definitions)
     return "\n".join(text).rstrip("\n") + "\n"

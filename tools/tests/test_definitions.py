@@ -49,8 +49,22 @@ number Second = twice 1
 abbrev pub twice : ℕ → ℕ
 twice n = n + n
 """
+LAWS = """ghost use Rattle.papi_c.specs.Histories.{Each};
+
+pub fn history_law()
+    ensures { Each }
+{}
+"""
+HISTORIES = """use Rattle.low.specs.Numbers.{twice}
+
+-- each is twice itself
+abbrev pub Each : Type 0
+Each = (n : ℕ) → twice n ≡ n + n
+"""
 FILES = {
-    "crates.txt": "low:\npapi_tools: low\n",
+    "crates.txt": "low:\npapi_tools: low\npapi_c: low\n",
+    "crates/papi_c/src/laws.rt": LAWS,
+    "crates/papi_c/specs/Histories.antt": HISTORIES,
     "docs/ARCHITECTURE.md": (
         "| Crate | Holds |\n|---|---|\n| `papi_tools` | the tools |\n| `low` | numbers of PAPI |\n"
     ),
@@ -81,6 +95,19 @@ class Definitions(InFolder):
         self.assertEqual(
             total_line(guide), "3 definitions of 7 lines in 2 files, and 2 types of 5 lines"
         )
+
+    def test_what_the_law_of_c_programs_reaches_beyond_it_comes_after(self) -> None:
+        guide = read_guide(self.folder)
+        beyond = guide.of_programs
+        assert beyond
+        self.assertEqual([it.place.name for it in some(beyond.definitions)], ["Each"])
+        self.assertEqual(guide.shared, 1)
+        page = guide_page(guide)
+        self.assertIn("It reaches 1 of the", page)
+        place = "../crates/papi_c/specs/Histories.antt#L4"
+        table = "| Definition | What it says | Lines |\n|---|---|---|\n"
+        last = f"| [`Each`]({place}) | Each is twice itself | 2 |\n"
+        self.assertTrue(page.endswith(f"### papi_c: Histories\n\n{table}{last}"))
 
     def test_the_marks_of_a_region_say_nothing_and_end_nothing(self) -> None:
         def said() -> list[tuple[str, str, int]]:
