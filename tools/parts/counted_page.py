@@ -69,9 +69,15 @@ def _quantities(quantities: Quantities) -> list[str]:
 
 
 def _shapes(machine: Machine) -> tuple[str, ...]:
-    caches = [(shape.lines * shape.line // KIB, shape.ways) for name in CACHES if (shape := machine.shapes[name])]
+    caches = [
+        (shape.lines * shape.line // KIB, shape.ways) for name in CACHES
+        if (shape := machine.shapes[name])
+    ]
     buffers = [(shape.lines, shape.ways) for name in BUFFERS if (shape := machine.shapes[name])]
-    sizes = [f"{kib // KIB} MiB, {ways}" if kib % KIB == 0 else f"{kib:,} KiB, {ways}" for kib, ways in caches]
+    sizes = [
+        f"{kib // KIB} MiB, {ways}" if kib % KIB == 0 else f"{kib:,} KiB, {ways}"
+        for kib, ways in caches
+    ]
     return (*sizes, *(f"{pages} pages, {ways}" for pages, ways in buffers))
 
 
@@ -81,7 +87,10 @@ def _machines() -> list[str]:
     for name, machine in MACHINES.items():
         named.setdefault(_shapes(machine), []).append(f"`{name}`")
     columns = ("Machine", *(f"`--{part}`" for part in (*CACHES, *BUFFERS)))
-    return [MODELLED, *_table(columns, [(", ".join(names), *shapes) for shapes, names in named.items()])]
+    return [
+        MODELLED,
+        *_table(columns, [(", ".join(names), *shapes) for shapes, names in named.items()]),
+    ]
 
 
 def counted_page() -> str:

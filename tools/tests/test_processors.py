@@ -118,7 +118,10 @@ class Tables(unittest.TestCase):
         self.assertEqual(named, set(tables()))
         page = counted_page()
         self.assertIn("| `L2_RQSTS:DEMAND_RFO_HIT`, `:RFO_HIT` | `l2_store_hits` |  |\n", page)
-        self.assertEqual(sorted(re.findall(r"^## (.*)$", page, re.MULTILINE)[2:]), sorted({table.title for table in tables().values()}))
+        self.assertEqual(
+            sorted(re.findall(r"^## (.*)$", page, re.MULTILINE)[2:]),
+            sorted({table.title for table in tables().values()}),
+        )
 
 
 class Files(InFolder):

@@ -125,7 +125,12 @@ class Words(unittest.TestCase):
 
     def test_the_documents_have_every_machine(self) -> None:
         """docs/COUNTED.md: sizes with their ways."""
-        text = (ROOT / "docs/COUNTED.md").read_text(encoding="utf-8").partition("| Machine |")[2].partition("\n\n")[0]
+        text = (
+            (ROOT / "docs/COUNTED.md")
+            .read_text(encoding="utf-8")
+            .partition("| Machine |")[2]
+            .partition("\n\n")[0]
+        )
         units, found = {"KiB": 1024, "MiB": 1 << 20, "pages": 1}, {}
         for row in text.splitlines()[2:]:
             names, *cells = row.strip("| ").split(" | ")

@@ -1,4 +1,5 @@
-"""checks/steps: what it draws, what it takes for a difference, and that none goes by without a row."""
+"""checks/steps: what it draws, what it takes for a difference, and that none goes by without a
+row."""
 
 from __future__ import annotations
 
