@@ -1,6 +1,8 @@
-/* Carries out scripts of calls on PAPI 7, for checks/steps. Scripts come on standard input, each ended by an empty line. A line is
-   `THREAD CALL ARGUMENT..`, as in docs/FORMATS.md. Each script has a process of its own, in which each of its threads is a thread.
-   A line of the output is the answer to each call: PAPI's number, and what it gave but counts. The line `end STATUS` follows. */
+/* Carries out scripts of calls on PAPI 7, for checks/steps. Scripts come on standard input, each
+ * ended by an empty line. A line is `THREAD CALL ARGUMENT..`, as in docs/FORMATS.md. Each script
+ * has a process of its own, in which each of its threads is a thread. A line of the output is the
+ * answer to each call: PAPI's number, and what it gave but counts. The line `end STATUS`
+ * follows. */
 
 #define _GNU_SOURCE
 #include <dlfcn.h>
@@ -17,7 +19,17 @@
 #include <sys/wait.h>
 #include <unistd.h>
 
-enum { THREADS = 8, SETS = 64, NO_SET = 1000, EVENTS = 64, CALLS = 256, LENGTH = 128, SECONDS = 10, MAIN = 1000, WORK = 20000 };
+enum {
+    THREADS = 8,
+    SETS = 64,
+    NO_SET = 1000,
+    EVENTS = 64,
+    CALLS = 256,
+    LENGTH = 128,
+    SECONDS = 10,
+    MAIN = 1000,
+    WORK = 20000
+};
 
 typedef struct {
     char thread[8], call[16], first[LENGTH], second[LENGTH], third[LENGTH];
@@ -39,8 +51,9 @@ static long long values[EVENTS];
 static papi_handle_t sde;
 static void *counters[2];
 
-/* Before PAPI takes a domain, or has events take turns, it opens a hardware event to see whether it may. Where there is none, as on most
-   virtual machines, it would refuse both. So the kernel opens a software event in place of it. Scripts have no hardware events. */
+/* Before PAPI takes a domain, or has events take turns, it opens a hardware event to see whether it
+ * may. Where there is none, as on most virtual machines, it would refuse both. So the kernel opens
+ * a software event in place of it. Scripts have no hardware events. */
 long syscall(long number, ...) {
     typedef long Call(long, ...);
     static Call *call;
@@ -50,8 +63,10 @@ long syscall(long number, ...) {
     for (int place = 0; place < 6; place++) given[place] = va_arg(rest, long);
     va_end(rest);
     if (!call) call = (Call *) dlsym(RTLD_NEXT, "syscall");
-    struct perf_event_attr *event = number == SYS_perf_event_open ? (struct perf_event_attr *) given[0] : NULL;
-    if (event && event->type == PERF_TYPE_HARDWARE) event->type = PERF_TYPE_SOFTWARE, event->config = PERF_COUNT_SW_CPU_CLOCK;
+    struct perf_event_attr *event =
+        number == SYS_perf_event_open ? (struct perf_event_attr *)given[0] : NULL;
+    if (event && event->type == PERF_TYPE_HARDWARE)
+        event->type = PERF_TYPE_SOFTWARE, event->config = PERF_COUNT_SW_CPU_CLOCK;
     return call(number, given[0], given[1], given[2], given[3], given[4], given[5]);
 }
 
@@ -64,12 +79,14 @@ static void take_nothing(int set, void *address, long long events, void *context
 /* The component of the unit of checks/steps with this number. */
 static int component(int number) {
     static const char *const known[] = {"perf_event", "sde"};
-    return number < 2 ? PAPI_get_component_index(known[number]) : PAPI_num_components() + number - 2;
+    return number < 2 ? PAPI_get_component_index(known[number])
+                      : PAPI_num_components() + number - 2;
 }
 
 static int set_of(const Thread *thread, const char *word) {
     unsigned long number = strtoul(word, NULL, 10);
-    return number < SETS && thread->sets[number] != PAPI_NULL ? thread->sets[number] : NO_SET + (int) (number % SETS);
+    return number < SETS && thread->sets[number] != PAPI_NULL ? thread->sets[number]
+                                                              : NO_SET + (int)(number % SETS);
 }
 
 static int code_of(const char *name, int *code) {
@@ -117,7 +134,8 @@ static int set_domain(int set, int bits) {
 
 static int overflow(int set, const Line *line) {
     int code = 0, status = code_of(line->second, &code);
-    return status == PAPI_OK ? PAPI_overflow(set, code, atoi(line->third), 0, take_nothing) : status;
+    return status == PAPI_OK ? PAPI_overflow(set, code, atoi(line->third), 0, take_nothing)
+                             : status;
 }
 
 static int add(int set, const char *name) {
@@ -129,7 +147,8 @@ static int add(int set, const char *name) {
 static void list_events(int set) {
     int found[EVENTS], count = EVENTS, status = PAPI_list_events(set, found, &count);
     printf("%d", status);
-    for (int place = 0; status == PAPI_OK && place < count; place++) printf(" %s", name_of(found[place]));
+    for (int place = 0; status == PAPI_OK && place < count; place++)
+        printf(" %s", name_of(found[place]));
     printf("\n");
 }
 
@@ -177,7 +196,8 @@ static int plain(Thread *thread, const Line *line, const char *call, int set) {
     if (!strcmp(call, "cleanup")) return PAPI_cleanup_eventset(set);
     if (!strcmp(call, "add")) return add(set, line->second);
     if (!strcmp(call, "remove")) return PAPI_remove_named_event(set, line->second);
-    if (!strcmp(call, "component")) return PAPI_assign_eventset_component(set, component(atoi(line->second)));
+    if (!strcmp(call, "component"))
+        return PAPI_assign_eventset_component(set, component(atoi(line->second)));
     if (!strcmp(call, "domain")) return set_domain(set, atoi(line->second));
     if (!strcmp(call, "multiplex")) return PAPI_set_multiplex(set);
     if (!strcmp(call, "overflow")) return overflow(set, line);
@@ -230,7 +250,9 @@ static void begin(void) {
     sde = papi_sde_init("steps");
     papi_sde_create_counter(sde, "ONE", PAPI_SDE_DELTA, &counters[0]);
     papi_sde_create_counter(sde, "TWO", PAPI_SDE_DELTA, &counters[1]);
-    if (PAPI_library_init(PAPI_VER_CURRENT) == PAPI_VER_CURRENT && PAPI_multiplex_init() == PAPI_OK && PAPI_thread_init(own_number) == PAPI_OK) return;
+    if (PAPI_library_init(PAPI_VER_CURRENT) == PAPI_VER_CURRENT &&
+        PAPI_multiplex_init() == PAPI_OK && PAPI_thread_init(own_number) == PAPI_OK)
+        return;
     fprintf(stderr, "step_calls: PAPI does not begin\n");
     _exit(1);
 }
@@ -263,7 +285,9 @@ int main(void) {
     while (fgets(text, sizeof text, stdin)) {
         Line *line = &lines[count % CALLS];
         memset(line, 0, sizeof *line);
-        if (sscanf(text, "%7s %15s %127s %127s %127s", line->thread, line->call, line->first, line->second, line->third) > 1) count++;
+        if (sscanf(text, "%7s %15s %127s %127s %127s", line->thread, line->call, line->first,
+                   line->second, line->third) > 1)
+            count++;
         else in_a_process(lines, count), count = 0;
     }
     return 0;

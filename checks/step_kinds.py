@@ -15,7 +15,8 @@ ANY = "*"
 OK = "PAPI_OK"
 SHORT = {
     "EVENTS": "add remove overflow code",
-    "SETS": "destroy cleanup add remove component domain multiplex overflow start stop read accum reset"
+    "SETS": "destroy cleanup add remove component domain multiplex overflow start stop read accum "
+    "reset"
     " state events",
     "NAMES": "PAPI_ENOEVNT|PAPI_ECMP|PAPI_ENOSUPP",
 }

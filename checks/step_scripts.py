@@ -1,4 +1,5 @@
-"""The scripts of `steps`: what PAPI can count on a machine without counters, and calls drawn over it."""
+"""The scripts of `steps`: what PAPI can count on a machine without counters, and calls drawn over
+it."""
 
 from __future__ import annotations
 
@@ -7,7 +8,8 @@ from random import Random
 
 from formats.scripts import CALLS
 
-# The kernel's software events, and software-defined ones, under PAPI's names. Each has a counter to itself, since PAPI refuses none for want of a counter.
+# The kernel's software events, and software-defined ones, under PAPI's names. Each has a counter to
+# itself, since PAPI refuses none for want of a counter.
 UNIT = """COMPONENT,perf_event,perf
 COUNTER,P0,48,P
 COUNTER,P1,48,P
@@ -35,27 +37,37 @@ EVENT,SUM,DERIVED_SUB,perf::TASK-CLOCK,perf::PAGE-FAULTS
 # The names of events as scripts have them, by the names that `events` replies here.
 WORD_OF = {"steps::ONE": "sde:::steps::ONE", "steps::TWO": "sde:::steps::TWO"}
 SOFTWARE = (
-    "perf::TASK-CLOCK", "perf::PAGE-FAULTS", "perf::PAGE-FAULTS", "perf::CONTEXT-SWITCHES", "perf::CPU-CLOCK", "perf::PAGE-FAULTS:u",
+    "perf::TASK-CLOCK", "perf::PAGE-FAULTS", "perf::PAGE-FAULTS", "perf::CONTEXT-SWITCHES",
+    "perf::CPU-CLOCK", "perf::PAGE-FAULTS:u",
 )  # fmt: skip
 DEFINED = ("sde:::steps::ONE", "sde:::steps::TWO")
 # Those of the preset file, with their native events.
 NATIVES = {
-    "PAPI_TOT_INS": ("perf::PAGE-FAULTS",), "PAPI_LST_INS": ("perf::PAGE-FAULTS", "perf::CONTEXT-SWITCHES"),
+    "PAPI_TOT_INS": ("perf::PAGE-FAULTS",),
+    "PAPI_LST_INS": ("perf::PAGE-FAULTS", "perf::CONTEXT-SWITCHES"),
     "OWN": ("perf::CPU-CLOCK",), "SUM": ("perf::TASK-CLOCK", "perf::PAGE-FAULTS"),
 }  # fmt: skip
 NO_EVENTS = ("perf::NO_SUCH", "perf::TASK-CLOCK:no_such", "PAPI_BR_INS", "PAPI_NONE")
 
 # `assign` and `raw` are no calls of PAPI.
 WEIGHTS = {
-    "create": 4, "add": 24, "start": 14, "stop": 10, "read": 6, "remove": 9, "overflow": 14, "multiplex": 4, "domain": 5, "component": 4,
-    "cleanup": 4, "destroy": 5, "accum": 4, "reset": 4, "run": 4, "state": 4, "events": 4, "register": 2, "unregister": 1, "threads": 2,
+    "create": 4, "add": 24, "start": 14, "stop": 10, "read": 6, "remove": 9, "overflow": 14,
+    "multiplex": 4, "domain": 5, "component": 4,
+    "cleanup": 4, "destroy": 5, "accum": 4, "reset": 4, "run": 4, "state": 4, "events": 4,
+    "register": 2, "unregister": 1, "threads": 2,
     "code": 2, "name": 2,
 }  # fmt: skip
-# What is drawn of each kind of argument, but for sets and events. PAPI has no slice, so each is right.
+# What is drawn of each kind of argument, but for sets and events. PAPI has no slice, so each is
+# right.
 ARGUMENTS = {
-    "COMPONENT": ["0", "0", "1", "1", "2", "9"], "BITS": ["0", "1", "1", "2", "3", "3", "4", "7", "8"], "SLICE": ["1", "1000"],
-    "THRESHOLD": ["0", "0", "0", "1", "255", "256", "1000", "10000", "100000", "100000", "100000"], "N": ["1", "3"],
-    "CODE": ["0x80000032", "0x8000003c", "0x80000037", "0x8000007f", "0x80000fff", "0x00000032", "0xc0000000", "0xc0000001", "0xc0000002"],
+    "COMPONENT": ["0", "0", "1", "1", "2", "9"],
+    "BITS": ["0", "1", "1", "2", "3", "3", "4", "7", "8"], "SLICE": ["1", "1000"],
+    "THRESHOLD": ["0", "0", "0", "1", "255", "256", "1000", "10000", "100000", "100000", "100000"],
+    "N": ["1", "3"],
+    "CODE": [
+        "0x80000032", "0x8000003c", "0x80000037", "0x8000007f", "0x80000fff", "0x00000032",
+        "0xc0000000", "0xc0000001", "0xc0000002",
+    ],
 }  # fmt: skip
 FIRST = ["overflow", "overflow", "overflow", "multiplex", "start", "read"]
 LENGTHS = range(8, 32)
@@ -65,7 +77,8 @@ Script = tuple[str, ...]
 
 @dataclass
 class Drawing:
-    """A script as it is drawn: its calls, how many sets each thread made at most, and what it gave them."""
+    """A script as it is drawn: its calls, how many sets each thread made at most, and what it gave
+    them."""
 
     random: Random
     threads: int

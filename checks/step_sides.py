@@ -1,4 +1,5 @@
-"""The two sides of `steps`: papi_run, and PAPI 7 by step_calls.c. Each gives a reply a call, without counts."""
+"""The two sides of `steps`: papi_run, and PAPI 7 by step_calls.c. Each gives a reply a call,
+without counts."""
 
 from __future__ import annotations
 

@@ -1,4 +1,5 @@
-"""What is so when a call of a script is made, as `steps` says it of a difference: words such as `running` or `a member`."""
+"""What is so when a call of a script is made, as `steps` says it of a difference: words such as
+`running` or `a member`."""
 
 from __future__ import annotations
 
@@ -15,7 +16,8 @@ MOST_COMPONENTS = 2
 
 
 def component_of(event: str) -> int | None:
-    """The component to which PAPI binds a set that is given this event, even if it refuses it then."""
+    """The component to which PAPI binds a set that is given this event, even if it refuses it
+    then."""
     if event in NO_EVENTS:
         return 0 if event == UNAVAILABLE else None
     return int(event in DEFINED)
@@ -48,8 +50,10 @@ class SetState:
 
     def words(self) -> set[str]:
         said = {
-            "lost": self.is_lost, "unbound": self.bound is None, "empty": not self.events, "running": self.runs, "multiplexed": self.takes_turns,
-            "with a threshold": self.thresholds, "defined": self.bound == 1, "bound by a refusal": self.bound != self.component,
+            "lost": self.is_lost, "unbound": self.bound is None, "empty": not self.events,
+            "running": self.runs, "multiplexed": self.takes_turns,
+            "with a threshold": self.thresholds, "defined": self.bound == 1,
+            "bound by a refusal": self.bound != self.component,
             "moved": self.is_moved,
         }  # fmt: skip
         return {word for word, holds in said.items() if holds}
@@ -83,7 +87,8 @@ class ThreadState:
 
 def words_of_event(event: str) -> set[str]:
     said = {
-        "no event": event in NO_EVENTS, "unavailable": event == UNAVAILABLE, "with an attribute": ":no_such" in event,
+        "no event": event in NO_EVENTS, "unavailable": event == UNAVAILABLE,
+        "with an attribute": ":no_such" in event,
         "derived": len(natives_of(event)) > 1, "a user event": event in USER_EVENTS,
     }  # fmt: skip
     return {word for word, holds in said.items() if holds}
